@@ -1,0 +1,5 @@
+pub mod Text
+pub mod Line
+pub mod Path
+pub mod Tree
+pub mod Constant
