@@ -1,6 +1,6 @@
 -- The names of constants, and the inflector that makes them of the names of files.
-use Rattle.std.specs.Prelude.{ℕ, Bool, false, List, [], ◌∷◌, ◌++◌, ◌+◌, ◌-◌, ◌&&◌, if◌then◌else◌, map}
-use Rattle.std.specs.List.{list_all}
+use Rattle.std.specs.Prelude.{ℕ, Bool, false, List, [], ◌∷◌, ◌+◌, ◌-◌, ◌&&◌, if◌then◌else◌, map}
+use Rattle.std.specs.List.{list_all, concat}
 use Rattle.std.specs.Str.{chars}
 use Rattle.unicode_ident.specs.Ident.{is_xid_continue}
 use Rattle.zw_def.specs.Text.{Text, pieces, is_upper, is_lower}
@@ -25,11 +25,7 @@ abbrev pub capitalized : Text → Text
 capitalized [] = []
 capitalized (b ∷ bs) = raised b ∷ map lowered bs
 
-abbrev pub all_joined : List Text → Text
-all_joined [] = []
-all_joined (t ∷ ts) = t ++ all_joined ts
-
 -- the name that the inflector makes of a base name: its parts between the `_`, each capitalized
 -- (Zeitwerk README, "Inflection")
 abbrev pub camelized : Text → Text
-camelized base = all_joined (map capitalized (pieces 95 base))
+camelized base = concat (map capitalized (pieces 95 base))

@@ -1,6 +1,7 @@
 -- The lines of a stream. A line ends with LF or with the stream.
 use Rattle.std.specs.Prelude.{ℕ, List, [], ◌∷◌, ◌+◌, ◌==◌, if◌then◌else◌}
-use Rattle.zw_def.specs.Text.{Text, onto}
+use Rattle.std.specs.List.{onto_first}
+use Rattle.zw_def.specs.Text.{Text}
 
 -- the first line, without its LF
 abbrev pub line_of : Text → Text
@@ -20,7 +21,7 @@ line_size (b ∷ bs) = if b == 10 then 1 else line_size bs + 1
 -- all lines, the last one also where the stream ends without an LF
 abbrev pub lines_of : Text → List Text
 lines_of [] = []
-lines_of (b ∷ bs) = if b == 10 then [] ∷ lines_of bs else onto b (lines_of bs)
+lines_of (b ∷ bs) = if b == 10 then [] ∷ lines_of bs else onto_first b (lines_of bs)
 
 -- a byte, put before the first of the lines where there is one
 abbrev pub onto_whole : ℕ → List Text → List Text

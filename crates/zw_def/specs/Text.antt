@@ -1,25 +1,18 @@
 -- Texts, which are lists of bytes, and their pieces.
-use Rattle.std.specs.Prelude.{ℕ, Bool, List, [], ◌∷◌, ◌++◌, ◌==◌, ◌&&◌, nat_le, length, if◌then◌else◌, Option, Some, None, take, drop}
+use Rattle.std.specs.Prelude.{ℕ, Bool, List, ◌==◌, ◌&&◌, nat_le, length, if◌then◌else◌, Option, Some, None, take, drop}
+use Rattle.std.specs.List.{slice_split, join_with_byte}
 use Rattle.std.specs.Str.{bytes_eq}
 
 abbrev pub Text : Type 0
 Text = List ℕ
 
--- a byte, put before the first of the pieces
-abbrev pub onto : ℕ → List Text → List Text
-onto b [] = (b ∷ []) ∷ []
-onto b (piece ∷ pieces) = (b ∷ piece) ∷ pieces
-
 -- the pieces of a text between the places of a separator: one more than there are separators
 abbrev pub pieces : ℕ → Text → List Text
-pieces separator [] = [] ∷ []
-pieces separator (b ∷ bs) = if b == separator then [] ∷ pieces separator bs else onto b (pieces separator bs)
+pieces separator text = slice_split (λ b. b == separator) text
 
 -- the texts, with the separator between them
 abbrev pub joined : ℕ → List Text → Text
-joined separator [] = []
-joined separator (t ∷ []) = t
-joined separator (t ∷ u ∷ more) = t ++ separator ∷ joined separator (u ∷ more)
+joined separator texts = join_with_byte separator texts
 
 -- what follows a prefix, where the text begins with it
 abbrev pub after_prefix : Text → Text → Option Text
@@ -33,5 +26,3 @@ is_lower b = nat_le 97 b && nat_le b 122
 
 abbrev pub is_upper : ℕ → Bool
 is_upper b = nat_le 65 b && nat_le b 90
-
--- the order of texts, by their bytes, is `slice_cmp nat_cmp` of the standard library
