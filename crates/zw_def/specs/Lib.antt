@@ -3,3 +3,5 @@ pub mod Line
 pub mod Path
 pub mod Tree
 pub mod Constant
+pub mod Map
+pub mod Folder

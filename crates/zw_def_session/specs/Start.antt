@@ -1,0 +1,160 @@
+-- How a session starts: the words, the configuration, the listing, the tree, and the first refusal among these.
+use Rattle.std.specs.Prelude.{ℕ, Bool, List, [], ◌∷◌, ◌++◌, Option, Some, None, Result, Ok, Err, ◌&&◌, ◌||◌, ◌==◌, ◌-◌, ◌+◌, if◌then◌else◌, codes, nat_le, nat_lt, length, take, drop, unwrap_or, sum_by}
+use Rattle.std.specs.List.{list_all, list_any}
+use Rattle.std.specs.Option.{option_and_then, option_map_or, ok_or}
+use Rattle.std.specs.Str.{bytes_eq}
+use Rattle.zw_def.specs.Text.{Text, after_prefix, is_lower, is_digit}
+use Rattle.zw_def.specs.Path.{Path, path_of, path_of_bytes, path_text}
+use Rattle.zw_def.specs.Tree.{File, Tree, admits, with_file}
+use Rattle.zw_def.specs.Map.{visible, expected_name, is_name}
+use Rattle.zw_def.specs.Folder.{Listing, bytes_at, unlisted}
+use Rattle.zw_def_world.specs.ClassFile.{ClassFile, class_file}
+use Rattle.zw_def_world.specs.Evaluation.{World}
+
+-- ---- refusals
+
+-- why a session does not start
+pub data Refusal : Type 0 where
+  bad_words : Refusal
+  no_configuration : Refusal
+  other_configuration : Refusal
+  other_file : Path → Refusal
+  long_listing : Refusal
+  many_files : Refusal
+  large_file : Path → Refusal
+  large_tree : Refusal
+
+-- how a session ends by itself
+pub data Ending : Type 0 where
+  done : Ending
+  usage : Ending
+  configuration : Ending
+  limit : Ending
+
+-- the line that a refusal prints
+abbrev pub line_of_refusal : Refusal → Text
+line_of_refusal bad_words = codes "usage: zw [--budget N] [--log] [--steps] [--eager] CONFIG"
+line_of_refusal no_configuration = codes "config: missing"
+line_of_refusal other_configuration = codes "config: not built"
+line_of_refusal (other_file path) = codes "not built: " ++ path_text path
+line_of_refusal long_listing = codes "limit: listing"
+line_of_refusal many_files = codes "limit: files"
+line_of_refusal (large_file path) = codes "limit: file " ++ path_text path
+line_of_refusal large_tree = codes "limit: tree"
+
+abbrev pub ending_of_refusal : Refusal → Ending
+ending_of_refusal bad_words = usage
+ending_of_refusal no_configuration = configuration
+ending_of_refusal other_configuration = configuration
+ending_of_refusal (other_file path) = configuration
+ending_of_refusal long_listing = limit
+ending_of_refusal many_files = limit
+ending_of_refusal (large_file path) = limit
+ending_of_refusal large_tree = limit
+
+-- a value, or the first refusal on the way to it
+abbrev pub Start : Type 0 → Type 0
+Start X = Result X Refusal
+
+-- one step, and with what it gives the next
+infixl 10 ◌>>=◌
+abbrev pub ◌>>=◌ : {X Y : Type 0} → Start X → (X → Start Y) → Start Y
+(Ok x) >>= next = next x
+(Err refusal) >>= next = Err refusal
+
+-- ---- the words
+
+-- exactly one word, which is the path of the configuration's file
+abbrev pub configuration_path : List Text → Start Path
+configuration_path [] = Err bad_words
+configuration_path (word ∷ []) = ok_or (path_of word) bad_words
+configuration_path (word ∷ next ∷ more) = Err bad_words
+
+-- ---- the configuration
+
+abbrev pub is_root_byte : ℕ → Bool
+is_root_byte b = is_lower b || is_digit b || b == 95
+
+-- a root's name that is built so far: `a` to `z`, digits and `_`
+abbrev pub is_root_name : Text → Bool
+is_root_name name = nat_le 1 (length name) && nat_le (length name) 255 && list_all is_root_byte name
+
+-- what stands before a suffix, where the text ends with it
+abbrev pub before_suffix : Text → Text → Option Text
+before_suffix suffix text =
+    if nat_le (length suffix) (length text) && bytes_eq (drop (length text - length suffix) text) suffix
+    then Some (take (length text - length suffix) text) else None
+
+-- the text without a first line `reloading = true`
+abbrev pub past_reloading : Text → Text
+past_reloading text = unwrap_or (after_prefix (codes "reloading = true\n") text) text
+
+-- the root of a configuration's text that is built so far: an optional line `reloading = true`, then `[[root]]`,
+-- then `path = "NAME"`, and no other bytes
+abbrev pub root_name : Text → Option Text
+root_name text =
+    option_and_then (λ rest. option_and_then (λ name. if is_root_name name then Some name else None) (before_suffix (codes "\"\n") rest))
+    (after_prefix (codes "[[root]]\npath = \"") (past_reloading text))
+
+abbrev pub root_of : Text → Start Path
+root_of text = option_map_or (λ name. Ok (name ∷ [])) (root_name text) (Err other_configuration)
+
+-- a file's text, where it is within the limit
+abbrev pub within_limit : Path → Text → Start Text
+within_limit path text = if nat_lt 1048576 (length text) then Err (large_file path) else Ok text
+
+abbrev pub configuration_text : Path → List (Text × Text) → Start Text
+configuration_text path files = option_map_or (within_limit path) (bytes_at (path_text path) files) (Err no_configuration)
+
+-- ---- the listing, and the tree that is taken from it
+
+abbrev pub listed : Listing → Start (List Text)
+listed folder = if nat_lt 1000000 (length (unlisted folder)) then Err long_listing else Ok (unlisted folder)
+
+abbrev pub size_of : Tree → ℕ
+size_of tree = sum_by (λ f. length f.text) tree
+
+-- the tree with one more file, where it is within the limits: its files, the file's bytes, its bytes together
+abbrev pub grown : Tree → Path → Text → Start Tree
+grown tree path text =
+    if nat_lt 100000 (length tree + 1) then Err many_files
+    else (if nat_lt 1048576 (length text) then Err (large_file path)
+    else (if nat_lt 268435456 (size_of tree + length text) then Err large_tree
+    else Ok (with_file tree path text)))
+
+-- the path that a listed text tells, where it is taken into the tree so far
+abbrev pub taken : Path → Tree → Text → Option Path
+taken fixed tree text = option_and_then (λ path. if admits (fixed ∷ []) tree path then Some path else None) (path_of_bytes text)
+
+-- the tree after one more listed path: it is passed over where it is not taken, or can no longer be found
+abbrev pub with_listed : Path → List (Text × Text) → Tree → Text → Start Tree
+with_listed fixed files tree text =
+    option_map_or (λ path. option_map_or (grown tree path) (bytes_at text files) (Ok tree)) (taken fixed tree text) (Ok tree)
+
+-- the listed paths are taken in their order
+abbrev pub mounted : Path → List (Text × Text) → Tree → List Text → Start Tree
+mounted fixed files tree [] = Ok tree
+mounted fixed files tree (text ∷ texts) = with_listed fixed files tree text >>= λ larger. mounted fixed files larger texts
+
+-- ---- what is built so far
+
+-- the class file that a visible file is, where it defines the constant that it is expected to define
+abbrev pub class_in : Path → File → Option ClassFile
+class_in root file = option_and_then (λ c. if is_name c.name (expected_name root file) then Some c else None) (class_file file.text)
+
+-- the first file that is none, or whose constant an earlier one defines
+abbrev pub first_other : Path → List Text → List File → Option Path
+first_other root earlier [] = None
+first_other root earlier (f ∷ fs) =
+    option_map_or (λ c. if list_any (bytes_eq c.name) earlier then Some f.path else first_other root (c.name ∷ earlier) fs) (class_in root f) (Some f.path)
+
+abbrev pub world_of : Path → Tree → Start World
+world_of root tree = option_map_or (λ path. Err (other_file path)) (first_other root [] (visible root tree)) (Ok (record { root = root; tree = tree }))
+
+-- ---- the start
+
+-- the world in which the first command is carried out, or the first refusal
+unfoldable pub started : List Text → Listing → Start World
+started words folder =
+    configuration_path words >>= λ path. configuration_text path folder.files >>= root_of >>= λ root.
+    listed folder >>= λ texts. mounted path folder.files [] texts >>= world_of root

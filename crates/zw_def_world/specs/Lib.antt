@@ -1,0 +1,2 @@
+pub mod ClassFile
+pub mod Evaluation
