@@ -1,5 +1,5 @@
 -- Trees of files. A tree is a finite map from paths to bytes, told as its pairs in path order.
-use Rattle.std.specs.Prelude.{not, Bool, false, List, [], ◌∷◌, ◌==◌, ◌&&◌, ◌||◌, if◌then◌else◌, codes, length, drop, ◌-◌, nat_le}
+use Rattle.std.specs.Prelude.{not, ℕ, Bool, false, List, [], ◌∷◌, ◌==◌, ◌&&◌, ◌||◌, if◌then◌else◌, codes, length, drop, ◌-◌, nat_le, sum_by}
 use Rattle.std.specs.List.{list_any}
 use Rattle.std.specs.Str.{bytes_eq}
 use Rattle.zw_def.specs.Text.{Text}
@@ -39,3 +39,7 @@ admits fixed tree path = is_ruby_path path && not (list_any (same_path path) fix
 abbrev pub with_file : Tree → Path → Text → Tree
 with_file [] path text = record { path = path; text = text } ∷ []
 with_file (f ∷ fs) path text = if precedes path f.path then record { path = path; text = text } ∷ f ∷ fs else f ∷ with_file fs path text
+
+-- the bytes of all files together
+abbrev pub size_of : Tree → ℕ
+size_of tree = sum_by (λ f. length f.text) tree

@@ -1,11 +1,11 @@
 -- How a session starts: the words, the configuration, the listing, the tree, and the first refusal among these.
-use Rattle.std.specs.Prelude.{ℕ, Bool, List, [], ◌∷◌, ◌++◌, Option, Some, None, Result, Ok, Err, ◌&&◌, ◌||◌, ◌==◌, ◌-◌, ◌+◌, if◌then◌else◌, codes, nat_le, nat_lt, length, take, drop, unwrap_or, sum_by}
+use Rattle.std.specs.Prelude.{ℕ, Bool, List, [], ◌∷◌, ◌++◌, Option, Some, None, Result, Ok, Err, ◌&&◌, ◌||◌, ◌==◌, ◌-◌, ◌+◌, if◌then◌else◌, codes, nat_le, nat_lt, length, take, drop, unwrap_or}
 use Rattle.std.specs.List.{list_all, list_any}
 use Rattle.std.specs.Option.{option_and_then, option_map_or, ok_or}
 use Rattle.std.specs.Str.{bytes_eq}
 use Rattle.zw_def.specs.Text.{Text, after_prefix, is_lower, is_digit}
 use Rattle.zw_def.specs.Path.{Path, path_of, path_of_bytes, path_text}
-use Rattle.zw_def.specs.Tree.{File, Tree, admits, with_file}
+use Rattle.zw_def.specs.Tree.{File, Tree, admits, with_file, size_of}
 use Rattle.zw_def.specs.Map.{visible, expected_name, is_name}
 use Rattle.zw_def.specs.Folder.{Listing, bytes_at, unlisted}
 use Rattle.zw_def_world.specs.ClassFile.{ClassFile, class_file}
@@ -110,9 +110,6 @@ configuration_text path files = option_map_or (within_limit path) (bytes_at (pat
 
 abbrev pub listed : Listing → Start (List Text)
 listed folder = if nat_lt 1000000 (length (unlisted folder)) then Err long_listing else Ok (unlisted folder)
-
-abbrev pub size_of : Tree → ℕ
-size_of tree = sum_by (λ f. length f.text) tree
 
 -- the tree with one more file, where it is within the limits: its files, the file's bytes, its bytes together
 abbrev pub grown : Tree → Path → Text → Start Tree

@@ -1,0 +1,4 @@
+pub mod Compared
+pub mod Pieces
+pub mod Faults
+pub mod Endings
