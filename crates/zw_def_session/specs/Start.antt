@@ -1,14 +1,14 @@
 -- How a session starts: the words, the configuration, the listing, the tree, and the first refusal among these.
 use Rattle.std.specs.Prelude.{ℕ, Bool, List, [], ◌∷◌, ◌++◌, Option, Some, None, Result, Ok, Err, ◌&&◌, ◌||◌, ◌==◌, ◌-◌, ◌+◌, if◌then◌else◌, codes, nat_le, nat_lt, length, take, drop, unwrap_or}
-use Rattle.std.specs.List.{list_all, list_any}
+use Rattle.std.specs.List.{list_all}
 use Rattle.std.specs.Option.{option_and_then, option_map_or, ok_or}
 use Rattle.std.specs.Str.{bytes_eq}
 use Rattle.zw_def.specs.Text.{Text, after_prefix, is_lower, is_digit}
 use Rattle.zw_def.specs.Path.{Path, path_of, path_of_bytes, path_text}
-use Rattle.zw_def.specs.Tree.{File, Tree, admits, with_file, size_of}
-use Rattle.zw_def.specs.Map.{visible, expected_name, is_name}
+use Rattle.zw_def.specs.Tree.{Tree, admits, with_file, size_of}
+use Rattle.zw_def.specs.Map.{visible}
 use Rattle.zw_def.specs.Folder.{Listing, bytes_at, unlisted}
-use Rattle.zw_def_world.specs.ClassFile.{ClassFile, class_file}
+use Rattle.zw_def_world.specs.Built.{first_other}
 use Rattle.zw_def_world.specs.Evaluation.{World}
 
 -- ---- refusals
@@ -132,18 +132,6 @@ with_listed fixed files tree text =
 abbrev pub mounted : Path → List (Text × Text) → Tree → List Text → Start Tree
 mounted fixed files tree [] = Ok tree
 mounted fixed files tree (text ∷ texts) = with_listed fixed files tree text >>= λ larger. mounted fixed files larger texts
-
--- ---- what is built so far
-
--- the class file that a visible file is, where it defines the constant that it is expected to define
-abbrev pub class_in : Path → File → Option ClassFile
-class_in root file = option_and_then (λ c. if is_name c.name (expected_name root file) then Some c else None) (class_file file.text)
-
--- the first file that is none, or whose constant an earlier one defines
-abbrev pub first_other : Path → List Text → List File → Option Path
-first_other root earlier [] = None
-first_other root earlier (f ∷ fs) =
-    option_map_or (λ c. if list_any (bytes_eq c.name) earlier then Some f.path else first_other root (c.name ∷ earlier) fs) (class_in root f) (Some f.path)
 
 abbrev pub world_of : Path → Tree → Start World
 world_of root tree = option_map_or (λ path. Err (other_file path)) (first_other root [] (visible root tree)) (Ok (record { root = root; tree = tree }))

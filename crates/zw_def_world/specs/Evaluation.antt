@@ -1,7 +1,6 @@
 -- What an expression answers, from the map of a tree. No entry, cache or table of loaded files is asked.
-use Rattle.std.specs.Prelude.{ℕ, ℤ, Bool, List, [], ◌++◌, Option, Some, None, ◌&&◌, ◌==◌, if◌then◌else◌, codes, find, reverse}
-use Rattle.std.specs.List.{before_first, after_first, list_any}
-use Rattle.std.specs.Option.{option_map_or}
+use Rattle.std.specs.Prelude.{ℕ, ℤ, Bool, List, [], ◌++◌, Option, Some, None, ◌&&◌, ◌==◌, if◌then◌else◌, codes, find, reverse, position, take, drop, ◌+◌}
+use Rattle.std.specs.Option.{option_map_or, option_and_then}
 use Rattle.std.specs.Fmt.{signed_decimal}
 use Rattle.std.specs.Str.{bytes_eq}
 use Rattle.zw_def.specs.Text.{Text}
@@ -23,11 +22,14 @@ pub record Call : Type 0 where
 abbrev pub is_dot : ℕ → Bool
 is_dot b = b == 46
 
--- the call that an expression is, if it is one: a class's name, a dot, a method's name
+-- a class's name and a method's name make a call
+abbrev pub call_by : Text → Text → Option Call
+call_by class_name method =
+    if is_class_name class_name && is_method_name method then Some (record { class_name = class_name; method = method }) else None
+
+-- the call that an expression is, if it is one: what stands before the first dot, and what follows it
 abbrev pub call_of : Text → Option Call
-call_of text =
-    if list_any is_dot text && is_class_name (before_first is_dot text) && is_method_name (after_first is_dot text)
-    then Some (record { class_name = before_first is_dot text; method = after_first is_dot text }) else None
+call_of text = option_and_then (λ place. call_by (take place text) (drop (place + 1) text)) (position is_dot text)
 
 -- how an evaluation ends
 pub data Ending : Type 0 where
@@ -53,4 +55,4 @@ evaluated world call =
 abbrev pub line_of_ending : Ending → Text
 line_of_ending (gave n) = codes "= " ++ signed_decimal n
 line_of_ending (no_constant name) = codes "! NameError: uninitialized constant " ++ name
-line_of_ending (no_method method name) = codes "! NoMethodError: undefined method '" ++ method ++ codes "' for class " ++ name
+line_of_ending (no_method method name) = codes "! NoMethodError: undefined method '" ++ (method ++ (codes "' for class " ++ name))

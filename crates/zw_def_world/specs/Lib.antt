@@ -1,2 +1,3 @@
 pub mod ClassFile
 pub mod Evaluation
+pub mod Built

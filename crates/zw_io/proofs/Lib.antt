@@ -1,0 +1,4 @@
+pub mod ToldLemmas
+pub mod LineLemmas
+pub mod LineSteps
+pub mod FolderLemmas

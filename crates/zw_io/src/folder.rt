@@ -1,0 +1,150 @@
+// Where files come from.
+ghost use Rattle.std.specs.Prelude.{◌≡◌, ℕ, Option, IfOk, IfSome, IsTrue, option_map};
+ghost use Rattle.zw_def.specs.Folder.{Listing, bytes_at};
+ghost use Rattle.zw_io.specs.FolderAnswers.{ListsIfTold, AppendsFile, AppendsMost, CountsFail, SetsPath, pairs};
+
+/// Why a call of a folder gives nothing.
+#[derive(Clone, Copy, Debug, PartialEq, Eq)]
+pub enum Fail {
+    Failed,
+    Memory,
+}
+
+/// Files under their paths, and the listing of these.
+pub trait Folder {
+    ghost use Rattle.zw_def.specs.Folder.{Listing};
+
+    /// The files and the place in their listing, where the folder tells them.
+    ghost listing: { Self → Option Listing };
+
+    /// How many calls have failed. It never falls.
+    ghost faults: { Self → ℕ };
+
+    /// Puts the next listed path in place of what `into` held. False is the listing's end.
+    fn next_path(&mut self, into: &mut Vec<u8>) -> Result<bool, Fail>
+        ensures lists { ListsIfTold result (listing self.old) into.new.items (listing self.new) }
+        ensures cause { CountsFail result (faults self.old) (faults self.new) };
+
+    /// Appends at most so many bytes of the front of a file. False says that there is none.
+    fn read(&mut self, path: &str, most: usize, into: &mut Vec<u8>) -> Result<bool, Fail>
+        ensures found { IfOk result (λ there. IfSome (listing self.old) (λ l. AppendsFile there most into.old.items into.new.items (bytes_at path.now l.files))) }
+        ensures same { listing self.new ≡ listing self.old }
+        ensures cause { CountsFail result (faults self.old) (faults self.new) };
+}
+
+/// Files in memory. It fails at the calls numbered in `fails`, from 1.
+#[derive(Drop)]
+pub struct MemFolder {
+    files: Vec<(String, Vec<u8>)>,
+    place: usize,
+    fails: Vec<u64>,
+    calls: u64,
+    faults: u64,
+}
+
+impl MemFolder {
+    ghost use Rattle.std.specs.Prelude.{◌≡◌};
+    ghost use Rattle.zw_io.specs.Fakes.{folder_listing, folder_faults};
+    ghost use Rattle.zw_io.specs.FolderAnswers.{CountsFail, pairs};
+
+    pub fn new(files: Vec<(String, Vec<u8>)>, fails: Vec<u64>) -> MemFolder
+        ensures files { (folder_listing result).files ≡ pairs files.items }
+        ensures place { (folder_listing result).place ≡ 0 }
+        ensures faults { folder_faults result ≡ 0 }
+    {
+        MemFolder {
+            files,
+            place: 0,
+            fails,
+            calls: 0,
+            faults: 0,
+        }
+    }
+
+    // Counts a call, which may be one that fails.
+    fn start(&mut self) -> Result<(), Fail>
+        ensures listing { folder_listing self.new ≡ folder_listing self.old }
+        ensures files { self.new.files ≡ self.old.files }
+        ensures place { self.new.place ≡ self.old.place }
+        ensures counts { CountsFail result (folder_faults self.old) (folder_faults self.new) }
+    {
+        self.calls = self.calls.saturating_add(1);
+        if self.fails.contains(&self.calls) {
+            self.faults = self.faults.saturating_add(1);
+            return Err(Fail::Failed);
+        }
+        Ok(())
+    }
+}
+
+// The bytes of the first file with this path.
+fn bytes_of<'a>(files: &'a [(String, Vec<u8>)], path: &str) -> Option<&'a [u8]>
+    ensures { option_map (λ b. b.now) result ≡ bytes_at path.now (pairs files.now) }
+{
+    for file in files {
+        if file.0.as_str() == path {
+            return Some(file.1.as_slice());
+        }
+    }
+    None
+}
+
+// Appends the first `most` of the bytes.
+fn append(into: &mut Vec<u8>, bytes: &[u8], most: usize) -> Result<(), Fail>
+    ensures { AppendsMost result most into.old.items bytes.now into.new.items }
+{
+    let n = bytes.len().min(most);
+    match into.extend_from_slice(&bytes[..n]) {
+        Ok(()) => Ok(()),
+        Err(_) => Err(Fail::Memory),
+    }
+}
+
+// Puts a path in place of what was held.
+pub fn set_path(into: &mut Vec<u8>, path: &str) -> Result<(), Fail>
+    ensures { SetsPath result path.now into.new.items }
+{
+    into.clear();
+    match into.extend_from_slice(path.as_bytes()) {
+        Ok(()) => Ok(()),
+        Err(_) => Err(Fail::Memory),
+    }
+}
+
+impl Folder for MemFolder {
+    ghost use Rattle.std.specs.Prelude.{Some};
+    ghost use Rattle.zw_io.specs.Fakes.{folder_listing, folder_faults};
+
+    ghost listing = { λ s. Some (folder_listing s) };
+
+    ghost faults = { folder_faults };
+
+    fn next_path(&mut self, into: &mut Vec<u8>) -> Result<bool, Fail> {
+        if let Err(fail) = self.start() {
+            return Err(fail);
+        }
+        match self.files.get(self.place) {
+            None => Ok(false),
+            Some(file) => match set_path(into, file.0.as_str()) {
+                Ok(()) => {
+                    self.place += 1;
+                    Ok(true)
+                }
+                Err(fail) => Err(fail),
+            },
+        }
+    }
+
+    fn read(&mut self, path: &str, most: usize, into: &mut Vec<u8>) -> Result<bool, Fail> {
+        if let Err(fail) = self.start() {
+            return Err(fail);
+        }
+        match bytes_of(self.files.as_slice(), path) {
+            None => Ok(false),
+            Some(bytes) => match append(into, bytes, most) {
+                Ok(()) => Ok(true),
+                Err(fail) => Err(fail),
+            },
+        }
+    }
+}

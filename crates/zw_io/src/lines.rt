@@ -1,0 +1,197 @@
+// The lines of a stream.
+ghost use Rattle.std.specs.Prelude.{◌≡◌, ◌≢◌, ◌+◌, [], true, false, OnOk, OnErr, IfOk, IfErr, IfSome, None, Err, nat_lt, if◌then◌else◌};
+ghost use Rattle.std.specs.Result.{result_err};
+ghost use Rattle.zw_io.specs.State.{bytes_left};
+ghost use Rattle.zw_io.specs.LineAnswers.{Answers, MeetsEnd, Steps, StepsToEnd, Counts, Spends, kept_with};
+
+use crate::Source;
+use crate::block::Block;
+
+/// How many bytes may be given.
+const MOST: u32 = 1 << 30;
+
+/// How many bytes of a line are kept: one more than a line may have.
+const KEPT: usize = 1_048_577;
+
+/// Why there is no next line: a read of the source failed, the line does not end within the bytes that may be given, or
+/// memory ran out.
+#[derive(Clone, Copy, Debug, PartialEq, Eq)]
+pub enum LinesFault {
+    ReadFault,
+    TooMuch,
+    Memory,
+}
+
+/// What was given: a line, the front of a line that is too long, or nothing at the end of input.
+#[derive(Clone, Copy, Debug, PartialEq, Eq)]
+pub enum LineEnd {
+    Line,
+    TooLong,
+    End,
+}
+
+/// The lines of a source. It holds bytes that were taken from the source and not yet given, says how many more may be
+/// given, and knows the end of input and the refusal that it met.
+#[derive(Drop)]
+pub struct Lines<'a, S: Source> {
+    pub source: &'a mut S,
+    pub block: Block,
+    pub room: u32,
+    pub is_ended: bool,
+    pub refused: Option<LinesFault>,
+}
+
+impl<'a, S: Source> Lines<'a, S> {
+    /// The lines of a source, of which none is read yet. It takes no memory.
+    pub fn new(source: &'a mut S) -> Lines<'a, S>
+        ensures same_source { result.source.ghost_name ≡ source.entry.ghost_name }
+        ensures source { result.source.now ≡ source.old }
+        ensures block { result.block ≡ [] }
+        ensures room { result.room ≡ 1073741824 }
+        ensures begun { result.is_ended ≡ false }
+        ensures left { bytes_left S.left result ≡ S.left source.old }
+        ensures fresh { result.refused ≡ None }
+    {
+        Lines {
+            source,
+            block: Block::new(),
+            room: MOST,
+            is_ended: false,
+            refused: None,
+        }
+    }
+
+    // Takes more bytes, where none is held and the end of input is not met.
+    fn refill(&mut self) -> Result<(), LinesFault>
+        ensures same_source { self.new.source.ghost_name ≡ self.old.source.ghost_name }
+        ensures same { bytes_left S.left self.new ≡ bytes_left S.left self.old }
+        ensures room { self.new.room ≡ self.old.room }
+        ensures end { OnOk result (IfSome (bytes_left S.left self.new) (λ bytes. self.new.block ≡ [] → bytes ≡ [])) }
+        ensures some { OnOk result (self.new.block ≡ [] → self.new.is_ended ≡ true) }
+        ensures met { OnOk result (self.new.block ≢ [] → self.new.is_ended ≡ self.old.is_ended) }
+        ensures begun { OnErr result (self.old.is_ended ≡ false) }
+        ensures drained { OnErr result (bytes_left S.left self.new ≡ S.left self.new.source.now) }
+        ensures fault { IfErr result (λ e. e ≡ LinesFault.ReadFault) }
+        ensures cause { Counts result (S.faults self.old.source.now) (S.faults self.new.source.now) }
+        ensures refused { self.new.refused ≡ self.old.refused }
+    {
+        if self.is_ended || !self.block.is_empty() {
+            return Ok(());
+        }
+        let most = self.room as usize + 1;
+        if self.block.fill(self.source, most).is_err() {
+            return Err(LinesFault::ReadFault);
+        }
+        self.is_ended = self.block.is_empty();
+        Ok(())
+    }
+
+    // The next byte, and None at the end of input.
+    fn next_byte(&mut self) -> Result<Option<u8>, LinesFault>
+        ensures same_source { self.new.source.ghost_name ≡ self.old.source.ghost_name }
+        ensures step { Steps result (bytes_left S.left self.old) self.old.room (bytes_left S.left self.new) self.new.room }
+        ensures met { StepsToEnd result self.old.is_ended self.new.is_ended }
+        ensures drained { IfErr result (λ fault. fault ≡ LinesFault.ReadFault → bytes_left S.left self.new ≡ S.left self.new.source.now) }
+        ensures cause { Counts result (S.faults self.old.source.now) (S.faults self.new.source.now) }
+        ensures room { IfOk result (λ r. IfSome r (λ _. self.new.room + 1 ≡ self.old.room)) }
+        ensures refused { self.new.refused ≡ self.old.refused }
+    {
+        self.refill()?;
+        if self.block.is_empty() {
+            return Ok(None);
+        }
+        if self.room == 0 {
+            return Err(LinesFault::TooMuch);
+        }
+        let byte = self.block.pop();
+        self.room -= 1;
+        Ok(Some(byte))
+    }
+
+    // Cuts the next line off.
+    fn cut_line(&mut self, into: &mut Vec<u8>) -> Result<LineEnd, LinesFault>
+        requires { into.old.items ≡ [] }
+        ensures same_source { self.new.source.ghost_name ≡ self.old.source.ghost_name }
+        ensures answer { IfSome (bytes_left S.left self.old) (λ bytes.
+            Answers result bytes self.old.room into.new.items (bytes_left S.left self.new) self.new.room) }
+        ensures met { IfSome (bytes_left S.left self.old) (λ bytes. MeetsEnd result bytes self.old.is_ended self.new.is_ended) }
+        ensures drained { IfErr result (λ fault. fault ≡ LinesFault.ReadFault → bytes_left S.left self.new ≡ S.left self.new.source.now) }
+        ensures cause { Counts result (S.faults self.old.source.now) (S.faults self.new.source.now) }
+        ensures room { IfOk result (λ end. Spends end self.old.room self.new.room) }
+        ensures refused { self.new.refused ≡ self.old.refused }
+    {
+        let start = self.room;
+        'bytes: loop {
+            match self.next_byte() {
+                Err(fault) => return Err(fault),
+                Ok(None) => {
+                    if self.room == start {
+                        return Ok(LineEnd::End);
+                    }
+                    return Ok(ended(into.len()));
+                }
+                Ok(Some(b'\n')) => return Ok(ended(into.len())),
+                Ok(Some(byte)) => match keep(into, byte) {
+                    Ok(()) => {}
+                    Err(_) => return Err(LinesFault::Memory),
+                },
+            }
+        }
+    }
+
+    /// Puts the next line, without its LF, in place of what `into` held: the whole line, or its first 1,048,577 bytes
+    /// where it is too long. A refusal is answered again by every later call. Once the end of input is met, the source is
+    /// asked no more.
+    pub fn next_line(&mut self, into: &mut Vec<u8>) -> Result<LineEnd, LinesFault>
+        ensures same_source { self.new.source.ghost_name ≡ self.old.source.ghost_name }
+        ensures answer { self.old.refused ≡ None → IfSome (bytes_left S.left self.old) (λ bytes.
+            Answers result bytes self.old.room into.new.items (bytes_left S.left self.new) self.new.room) }
+        // Callers know of each line before a failed read that it had its LF.
+        ensures met { self.old.refused ≡ None → IfSome (bytes_left S.left self.old) (λ bytes.
+            MeetsEnd result bytes self.old.is_ended self.new.is_ended) }
+        // After a failed read no byte is held: what is left is what the source has left.
+        ensures drained { self.old.refused ≡ None → IfErr result (λ fault.
+            fault ≡ LinesFault.ReadFault → bytes_left S.left self.new ≡ S.left self.new.source.now) }
+        ensures cause { self.old.refused ≡ None → Counts result (S.faults self.old.source.now) (S.faults self.new.source.now) }
+        ensures again { IfSome self.old.refused (λ fault. (result ≡ Err fault) × (S.faults self.new.source.now ≡ S.faults self.old.source.now)) }
+        // Each line spends room, so that a loop over the lines ends.
+        ensures room { IfOk result (λ end. Spends end self.old.room self.new.room) }
+        ensures refused { self.new.refused ≡ result_err result }
+    {
+        into.clear();
+        if let Some(fault) = self.refused {
+            return Err(fault);
+        }
+        match self.cut_line(into) {
+            Ok(end) => Ok(end),
+            Err(fault) => {
+                self.refused = Some(fault);
+                Err(fault)
+            }
+        }
+    }
+}
+
+// What a line is that ends where so many of its bytes are kept.
+fn ended(kept: usize) -> LineEnd
+    ensures { result ≡ (if nat_lt kept 1048577 then LineEnd.Line else LineEnd.TooLong) }
+{
+    if kept < KEPT {
+        LineEnd::Line
+    } else {
+        LineEnd::TooLong
+    }
+}
+
+// Keeps a byte, where there is room.
+fn keep(into: &mut Vec<u8>, byte: u8) -> Result<(), LinesFault>
+    ensures ok { OnOk result (into.new.items ≡ kept_with 1048577 into.old.items byte) }
+    ensures err { IfErr result (λ e. e ≡ LinesFault.Memory) }
+{
+    if into.len() < KEPT {
+        if into.push(byte).is_err() {
+            return Err(LinesFault::Memory);
+        }
+    }
+    Ok(())
+}

@@ -1,0 +1,14 @@
+use Rattle.std.proofs.Common.{◌≡◌, ◌≤◌, ◌-◌, length, drop, map}
+use Rattle.zw_def_world.specs.ClassFile.{methods_of}
+use Rattle.zw_run.specs.Seen.{method_seen, lines_seen}
+use Rattle.zw_run.proofs.Methods.{with_front}
+use Rattle.zw_run.proofs.class_file.methods.Given as goal
+
+abbrev pub invariant-methods : goal.invariant-methods
+invariant-methods l = record {
+  within : l.at ≤ length l.lines;
+  found : with_front (map method_seen l.found.items) (methods_of (lines_seen (drop l.at l.lines))) ≡ methods_of (lines_seen l.lines);
+}
+
+abbrev pub decreases-methods : goal.decreases-methods
+decreases-methods l = length l.lines - l.at

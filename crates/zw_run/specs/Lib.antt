@@ -1,0 +1,5 @@
+pub mod Seen
+pub mod Lines
+pub mod Calls
+pub mod World
+pub mod Session

@@ -1,0 +1,125 @@
+//! The tree.
+ghost use Rattle.std.specs.Prelude.{◌≡◌, ◌+◌, ◌^◌, ◌<◌, ◌==◌, [], ◌∷◌, length, map, OnOk, OnErr};
+ghost use Rattle.std.specs.List.{list_any, position_or_len};
+ghost use Rattle.std.specs.Option.{option_map};
+ghost use Rattle.zw_def.specs.Path.{precedes};
+ghost use Rattle.zw_def.specs.Tree.{admits, is_in_the_way, with_file, size_of};
+ghost use Rattle.zw_tree.specs.Seen.{file_seen};
+ghost use Rattle.zw_tree.specs.Text.{text_at};
+
+use crate::ruby::is_ruby;
+use std::alloc::{AllocError, Global};
+use std::marker::Model;
+use zw_path::Path;
+
+/// A file of a tree, with its bytes.
+#[derive(Drop)]
+pub struct File {
+    pub path: Path,
+    pub text: Vec<u8>,
+}
+
+/// The files of a tree. A clause sees the tree as the list of its files.
+#[derive(Drop)]
+pub struct Tree {
+    files: Vec<File>,
+    size: u64,
+}
+
+impl Model for Tree {
+    ghost use Rattle.std.specs.Prelude.{◌≡◌, map};
+    ghost use Rattle.zw_def.specs.Tree.{Tree as Files, size_of};
+    ghost use Rattle.zw_tree.specs.Seen.{file_seen};
+
+    ghost Value = { Files };
+
+    ghost view = { λ t. map file_seen t.files.items };
+
+    ghost invariant = { λ t. t.size ≡ size_of (map file_seen t.files.items) };
+}
+
+impl Tree {
+    pub fn new(alloc: Global) -> Tree
+        ensures { result ≡ [] }
+    {
+        Tree {
+            files: Vec::new(alloc),
+            size: 0,
+        }
+    }
+
+    pub fn len(&self) -> usize
+        ensures { result ≡ length self.now }
+    {
+        self.files.len()
+    }
+
+    pub fn is_empty(&self) -> bool
+        ensures { result ≡ (length self.now == 0) }
+    {
+        self.files.is_empty()
+    }
+
+    /// The bytes of all files together.
+    pub fn size(&self) -> u64
+        ensures { result ≡ size_of self.now }
+    {
+        self.size
+    }
+
+    /// The files in path order.
+    pub fn files(&self) -> &[File]
+        ensures { map file_seen result.now ≡ self.now }
+    {
+        self.files.as_slice()
+    }
+
+    /// Whether a listed path is taken into the tree so far: it is one of a Ruby file, it is not the fixed path, and it
+    /// is no key of the tree, no directory of it, and stands below no key.
+    pub fn admits(&self, fixed: &Path, path: &Path) -> bool
+        ensures { result ≡ admits (fixed.now ∷ []) self.now path.now }
+    {
+        is_ruby(path) && path != fixed && !self.is_in_the_way(path)
+    }
+
+    fn is_in_the_way(&self, path: &Path) -> bool
+        ensures { result ≡ is_in_the_way self.now path.now }
+    {
+        self.files
+            .iter()
+            .any(|file| file.path == *path || file.path.is_below(path) || path.is_below(&file.path))
+    }
+
+    /// Puts a file at its place in path order, over no other: ask `admits` first.
+    pub fn put(&mut self, path: Path, text: Vec<u8>) -> Result<(), AllocError>
+        requires room { size_of self.old + length text.items < 2 ^ 64 }
+        ensures ok { OnOk result (self.new ≡ with_file self.old path text.items) }
+        ensures err { OnErr result (self.new ≡ self.old) }
+    {
+        let size = self.size + text.len() as u64;
+        let place = place_of(&self.files, &path);
+        self.files.insert(place, File { path, text })?;
+        self.size = size;
+        Ok(())
+    }
+
+    /// The bytes of the file at the path, if there is one.
+    pub fn text(&self, path: &Path) -> Option<&[u8]>
+        ensures { option_map (λ text. text.now) result ≡ text_at path.now self.now }
+    {
+        self.files
+            .iter()
+            .find(|file| file.path == *path)
+            .map(|file| file.text.as_slice())
+    }
+}
+
+/// The index of the first file that the path precedes, or the number of files where it precedes none.
+fn place_of(files: &[File], path: &Path) -> usize
+    ensures { result ≡ position_or_len (λ file. precedes path.now file.path) (map file_seen files.now) }
+{
+    files
+        .iter()
+        .position(|file| path.precedes(&file.path))
+        .unwrap_or(files.len())
+}
