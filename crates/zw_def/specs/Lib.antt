@@ -6,3 +6,5 @@ pub mod Constant
 pub mod Base
 pub mod Map
 pub mod Folder
+pub mod Pattern
+pub mod ConstantPath

@@ -1,7 +1,7 @@
 -- Paths. A path is a list of components, and its text is these with `/` between them.
 use Rattle.std.specs.Prelude.{not, ℕ, Bool, true, false, List, [], ◌∷◌, ◌==◌, ◌&&◌, nat_le, length, if◌then◌else◌, Option, Some, None}
 use Rattle.std.specs.List.{list_all}
-use Rattle.std.specs.Str.{bytes_eq, is_utf8}
+use Rattle.std.specs.Str.{bytes_eq}
 use Rattle.std.specs.Ordering.{nat_cmp, is_lt}
 use Rattle.std.specs.Cmp.Lexicographic.{slice_cmp, pointwise}
 use Rattle.std.specs.declared.cmp.Ordering.{Ordering}
@@ -31,10 +31,6 @@ components = pieces 47
 -- the path that a text in UTF-8 tells, if it tells one
 abbrev pub path_of : Text → Option Path
 path_of text = if list_all is_component (components text) then Some (components text) else None
-
--- the path that bytes tell, if they tell one
-abbrev pub path_of_bytes : Text → Option Path
-path_of_bytes bytes = if is_utf8 bytes then path_of bytes else None
 
 abbrev pub path_text : Path → Text
 path_text = joined 47

@@ -2,9 +2,9 @@
 use Rattle.std.specs.Prelude.{ℕ, Bool, List, [], ◌∷◌, ◌++◌, Option, Some, None, Result, Ok, Err, ◌&&◌, ◌||◌, ◌==◌, ◌-◌, ◌+◌, if◌then◌else◌, codes, nat_le, nat_lt, length, take, drop, unwrap_or}
 use Rattle.std.specs.List.{list_all}
 use Rattle.std.specs.Option.{option_and_then, option_map_or, ok_or}
-use Rattle.std.specs.Str.{bytes_eq}
+use Rattle.std.specs.Str.{bytes_eq, is_utf8}
 use Rattle.zw_def.specs.Text.{Text, after_prefix, is_lower, is_digit}
-use Rattle.zw_def.specs.Path.{Path, path_of, path_of_bytes, path_text}
+use Rattle.zw_def.specs.Path.{Path, path_of, path_text}
 use Rattle.zw_def.specs.Tree.{Tree, admits, with_file, size_of}
 use Rattle.zw_def.specs.Map.{visible}
 use Rattle.zw_def.specs.Folder.{Listing, bytes_at, unlisted}
@@ -62,6 +62,22 @@ abbrev pub ◌>>=◌ : {X Y : Type 0} → Start X → (X → Start Y) → Start 
 (Ok x) >>= next = next x
 (Err refusal) >>= next = Err refusal
 
+-- ---- limits
+
+-- how many paths a folder may list, and files a tree may have
+unfoldable pub most_listed : ℕ
+most_listed = 1000000
+
+unfoldable pub most_files : ℕ
+most_files = 100000
+
+-- how many bytes a file may have, and the files of a tree together
+unfoldable pub most_file_bytes : ℕ
+most_file_bytes = 1048576
+
+unfoldable pub most_tree_bytes : ℕ
+most_tree_bytes = 268435456
+
 -- ---- the words
 
 -- exactly one word, which is the path of the configuration's file
@@ -77,7 +93,10 @@ is_root_byte b = is_lower b || is_digit b || b == 95
 
 -- a root's name that is built so far: `a` to `z`, digits and `_`
 abbrev pub is_root_name : Text → Bool
-is_root_name name = nat_le 1 (length name) && nat_le (length name) 255 && list_all is_root_byte name
+is_root_name name = list_all is_root_byte name
+
+abbrev pub root_text : Text → Option Text
+root_text name = if is_root_name name then Some name else None
 
 -- what stands before a suffix, where the text ends with it
 abbrev pub before_suffix : Text → Text → Option Text
@@ -93,53 +112,74 @@ past_reloading text = unwrap_or (after_prefix (codes "reloading = true\n") text)
 -- then `path = "NAME"`, and no other bytes
 abbrev pub root_name : Text → Option Text
 root_name text =
-    option_and_then (λ rest. option_and_then (λ name. if is_root_name name then Some name else None) (before_suffix (codes "\"\n") rest))
+    option_and_then (λ rest. option_and_then root_text (before_suffix (codes "\"\n") rest))
     (after_prefix (codes "[[root]]\npath = \"") (past_reloading text))
 
+-- the root that the name tells, where it tells a path
 abbrev pub root_of : Text → Start Path
-root_of text = option_map_or (λ name. Ok (name ∷ [])) (root_name text) (Err other_configuration)
+root_of text = ok_or (option_and_then path_of (root_name text)) other_configuration
 
 -- a file's text, where it is within the limit
 abbrev pub within_limit : Path → Text → Start Text
-within_limit path text = if nat_lt 1048576 (length text) then Err (large_file path) else Ok text
+within_limit path text = if nat_lt most_file_bytes (length text) then Err (large_file path) else Ok text
+
+abbrev pub configuration_by : Path → Option Text → Start Text
+configuration_by path text = option_map_or (within_limit path) text (Err no_configuration)
 
 abbrev pub configuration_text : Path → List (Text × Text) → Start Text
-configuration_text path files = option_map_or (within_limit path) (bytes_at (path_text path) files) (Err no_configuration)
+configuration_text path files = configuration_by path (bytes_at (path_text path) files)
 
 -- ---- the listing, and the tree that is taken from it
 
 abbrev pub listed : Listing → Start (List Text)
-listed folder = if nat_lt 1000000 (length (unlisted folder)) then Err long_listing else Ok (unlisted folder)
+listed folder = if nat_lt most_listed (length (unlisted folder)) then Err long_listing else Ok (unlisted folder)
 
 -- the tree with one more file, where it is within the limits: its files, the file's bytes, its bytes together
 abbrev pub grown : Tree → Path → Text → Start Tree
 grown tree path text =
-    if nat_lt 100000 (length tree + 1) then Err many_files
-    else (if nat_lt 1048576 (length text) then Err (large_file path)
-    else (if nat_lt 268435456 (size_of tree + length text) then Err large_tree
+    if nat_lt most_files (length tree + 1) then Err many_files
+    else (if nat_lt most_file_bytes (length text) then Err (large_file path)
+    else (if nat_lt most_tree_bytes (size_of tree + length text) then Err large_tree
     else Ok (with_file tree path text)))
 
 -- the path that a listed text tells, where it is taken into the tree so far
-abbrev pub taken : Path → Tree → Text → Option Path
-taken fixed tree text = option_and_then (λ path. if admits (fixed ∷ []) tree path then Some path else None) (path_of_bytes text)
+abbrev pub taken_text : Path → Tree → Text → Option Path
+taken_text fixed tree text = option_and_then (λ path. if admits (fixed ∷ []) tree path then Some path else None) (path_of text)
 
--- the tree after one more listed path: it is passed over where it is not taken, or can no longer be found
+-- the tree with a file, unless it can no longer be found
+abbrev pub grown_by : Tree → Path → Option Text → Start Tree
+grown_by tree path text = option_map_or (grown tree path) text (Ok tree)
+
+-- the tree after one more listed text, which is passed over where no path is taken
+abbrev pub with_text : Path → List (Text × Text) → Tree → Text → Start Tree
+with_text fixed files tree text = option_map_or (λ path. grown_by tree path (bytes_at text files)) (taken_text fixed tree text) (Ok tree)
+
+-- the tree after one more listed path, which is passed over where it is not UTF-8
 abbrev pub with_listed : Path → List (Text × Text) → Tree → Text → Start Tree
-with_listed fixed files tree text =
-    option_map_or (λ path. option_map_or (grown tree path) (bytes_at text files) (Ok tree)) (taken fixed tree text) (Ok tree)
+with_listed fixed files tree bytes = if is_utf8 bytes then with_text fixed files tree bytes else Ok tree
 
 -- the listed paths are taken in their order
 abbrev pub mounted : Path → List (Text × Text) → Tree → List Text → Start Tree
 mounted fixed files tree [] = Ok tree
 mounted fixed files tree (text ∷ texts) = with_listed fixed files tree text >>= λ larger. mounted fixed files larger texts
 
+-- the listing is taken whole before the first file is read
+abbrev pub tree_of : Path → Listing → Start Tree
+tree_of fixed folder = listed folder >>= λ texts. mounted fixed folder.files [] texts
+
 abbrev pub world_of : Path → Tree → Start World
 world_of root tree = option_map_or (λ path. Err (other_file path)) (first_other root [] (visible root tree)) (Ok (record { root = root; tree = tree }))
 
 -- ---- the start
 
+-- with this root
+abbrev pub world_in : Path → Path → Listing → Start World
+world_in root path folder = tree_of path folder >>= world_of root
+
+-- with the configuration at this path
+abbrev pub started_at : Path → Listing → Start World
+started_at path folder = configuration_text path folder.files >>= λ text. root_of text >>= λ root. world_in root path folder
+
 -- the world in which the first command is carried out, or the first refusal
-unfoldable pub started : List Text → Listing → Start World
-started words folder =
-    configuration_path words >>= λ path. configuration_text path folder.files >>= root_of >>= λ root.
-    listed folder >>= λ texts. mounted path folder.files [] texts >>= world_of root
+abbrev pub started : List Text → Listing → Start World
+started words folder = configuration_path words >>= λ path. started_at path folder

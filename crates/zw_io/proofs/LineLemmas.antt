@@ -1,5 +1,8 @@
 -- Lines, over plain bytes.
-use Rattle.std.proofs.Common.{◌≡◌, ◌≢◌, ◌≤◌, ◌<◌, ◌+◌, ◌-◌, ◌++◌, ◌==◌, ◌⊎◌, cond, true, false, Bool, ℕ, zero, suc, List, [], ◌∷◌, nat_lt, length, take, refl, sym, ap, ◌∙◌, append-nil, arith, inl, inr}
+use Rattle.std.proofs.Common.{◌≡◌, ◌≢◌, ◌≤◌, ◌<◌, ◌+◌, ◌-◌, ◌++◌, ◌==◌, ◌⊎◌, cond, true, false, Bool, ℕ, zero, suc, List, [], ◌∷◌, nat_lt, length, take, refl, sym, ap, ◌∙◌, append-nil, append_assoc, arith, inl, inr}
+use Rattle.std.specs.Prelude.{All}
+use Rattle.std.proofs.lemmas.List.{length-append}
+use Rattle.std.proofs.Math.Seq.{take-append_seam}
 use Rattle.std.proofs.lemmas.Bool.{cases_Bool}
 use Rattle.std.proofs.lemmas.Bool.Decides.{nat_tests}
 use Rattle.std.specs.List.{onto_first}
@@ -193,6 +196,43 @@ whole_lines-take bytes n ended =
     let front : take (line_size bytes + n) bytes ≡ line_of bytes ++ 10 ∷ take n (after_line bytes) =
     ap (λ k. take k bytes) size ∙ ap (take (length (line_of bytes) + 1 + n)) (line_split bytes ended) ∙ take_line (line_of bytes) (after_line bytes) n in
     ap whole_lines front ∙ whole_lines-line (line_of bytes) (take n (after_line bytes)) (line_of-within bytes)
+
+-- ---- the bytes taken, where the last of the bytes are still left
+
+-- no line stands whole in what was taken of bytes where a front of a line was passed
+pub whole_lines-stop : (bytes front rest : Text) → bytes ≡ front ++ rest → IsWithinLine front → whole_lines (take (length bytes - length rest) bytes) ≡ []
+whole_lines-stop bytes front rest split within =
+    let taken : length bytes - length rest ≡ length front = omega (arith, ap length split, length-append front rest) in
+    let begin : take (length bytes - length rest) bytes ≡ front = ap (λ k. take k bytes) taken ∙ ap (take (length front)) split ∙ take-append_seam front rest in
+    ap whole_lines begin ∙ whole_lines-within front within
+
+-- the first line stands whole in what was taken, where no more is left than what follows it
+pub whole_lines-taken : (bytes : Text) (left : ℕ) → HasLineFeed bytes → left ≤ length (after_line bytes) → whole_lines (take (length bytes - left) bytes) ≡ line_of bytes ∷ whole_lines (take (length (after_line bytes) - left) (after_line bytes))
+whole_lines-taken bytes left ended within =
+    let taken : length bytes - left ≡ line_size bytes + (length (after_line bytes) - left) = omega (arith, length_line bytes) in
+    ap (λ k. whole_lines (take k bytes)) taken ∙ whole_lines-take bytes (length (after_line bytes) - left) ended
+
+-- ---- lines, each with its LF
+
+-- the lines, each with an LF behind it
+abbrev pub with_feeds : List Text → Text
+with_feeds [] = []
+with_feeds (line ∷ lines) = line ++ 10 ∷ with_feeds lines
+
+pub with_feeds-more : (lines : List Text) (line rest : Text) → with_feeds (lines ++ line ∷ []) ++ rest ≡ with_feeds lines ++ (line ++ 10 ∷ rest)
+with_feeds-more [] line rest = append_assoc line (10 ∷ []) rest
+with_feeds-more (first ∷ lines) line rest =
+    append_assoc first (10 ∷ with_feeds (lines ++ line ∷ [])) rest
+    ∙ ap (λ more. first ++ 10 ∷ more) (with_feeds-more lines line rest)
+    ∙ sym (append_assoc first (10 ∷ with_feeds lines) (line ++ 10 ∷ rest))
+
+-- the lines that stand whole in them and more bytes
+pub whole_lines-feeds : (lines : List Text) (more : Text) → All IsWithinLine lines → whole_lines (with_feeds lines ++ more) ≡ lines ++ whole_lines more
+whole_lines-feeds [] more within = refl
+whole_lines-feeds (line ∷ lines) more within =
+    ap whole_lines (append_assoc line (10 ∷ with_feeds lines) more)
+    ∙ whole_lines-line line (with_feeds lines ++ more) (within 0 [] (omega arith))
+    ∙ ap (λ rest. line ∷ rest) (whole_lines-feeds lines more (λ k other below. within (suc k) other (omega arith)))
 
 -- ---- lines within some room
 

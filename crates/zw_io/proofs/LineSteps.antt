@@ -1,16 +1,16 @@
 -- A line, byte by byte: what a loop over the bytes knows, and what it answers.
-use Rattle.std.proofs.Common.{◌≡◌, ◌≢◌, ◌≤◌, ◌<◌, ◌+◌, ◌++◌, cond, true, false, Bool, ℕ, List, [], ◌∷◌, Option, Some, None, Ok, Err, IfSome, option_map, nat_lt, length, take, refl, sym, ap, subst, append-nil, ◌∙◌, append_assoc, arith}
+use Rattle.std.proofs.Common.{◌≡◌, ◌≢◌, ◌≤◌, ◌<◌, ◌+◌, ◌++◌, cond, true, false, Bool, ℕ, [], ◌∷◌, Option, Some, None, Ok, Err, IfSome, option_map, nat_lt, length, take, refl, sym, ap, subst, append-nil, ◌∙◌, append_assoc, arith}
 use Rattle.std.proofs.lemmas.Option.{same_Some}
 use Rattle.std.proofs.lemmas.List.{take_all, take-append-le, length-append, length-take}
 use Rattle.std.proofs.lemmas.Bool.Decides.{nat_tests}
 use Rattle.zw_def.specs.Text.{Text}
 use Rattle.zw_def.specs.Line.{line_of, after_line, line_size}
-use Rattle.zw_io.specs.LineAnswers.{IsWithinLine, HasLineFeed, kept_with, TakesLine, StopsWithin, Answers, MeetsEnd, Steps, StepsToEnd}
+use Rattle.zw_io.specs.LineAnswers.{IsWithinLine, HasLineFeed, kept_with, TakesLine, Answers, MeetsEnd, Steps}
 use Rattle.zw_io.specs.declared.lines.LineEnd.{LineEnd}
-use Rattle.zw_io.specs.declared.lines.LineEnd.TheVariants.{Line, TooLong, End}
+use Rattle.zw_io.specs.declared.lines.LineEnd.TheVariants.{Line, TooLong}
 use Rattle.zw_io.specs.declared.lines.LinesFault.{LinesFault}
 use Rattle.zw_io.specs.declared.lines.LinesFault.TheVariants.{ReadFault, TooMuch, Memory}
-use Rattle.zw_io.proofs.LineLemmas.{line_of-front, after_line-front, line_size-front, line_size-some, line_size-none, line_size-length, within-more}
+use Rattle.zw_io.proofs.LineLemmas.{line_of-front, after_line-front, line_size-front, line_size-length, within-more}
 
 -- a front with no LF has gone by, and into has at most n bytes of it
 pub record Goes (n : ℕ) (all rest into : Text) (start room : ℕ) : Type 0 where
@@ -25,10 +25,6 @@ abbrev pub GoesIfTold : ℕ → Option Text → Option Text → Text → ℕ →
 GoesIfTold n None now into start room = Unit {0}
 GoesIfTold n (Some all) None into start room = ⊥
 GoesIfTold n (Some all) (Some rest) into start room = Goes n all rest into start room
-
-pub told_start : (n : ℕ) (told : Option Text) (into : Text) (start : ℕ) → into ≡ [] → GoesIfTold n told told into start start
-told_start n None into start none = tt
-told_start n (Some all) into start none = record { front = []; split = refl; within = refl; kept = none ∙ sym (take_all n [] (omega arith)); spent = omega arith }
 
 -- one byte more is kept where fewer than n are
 kept_more : (n : ℕ) (front into : Text) (b : ℕ) (t : Bool) → t ≡ nat_lt (length into) n → into ≡ take n front → cond t (into ++ b ∷ []) into ≡ take n (front ++ b ∷ [])
@@ -89,14 +85,6 @@ told_err ReadFault (Some all) (Some rest) new into start room left goes step =
 told_err TooMuch (Some all) (Some rest) new into start room left goes step =
     omega (arith, goes.spent, step.0, line_size-length rest step.1, front_size all goes.front rest goes.split goes.within)
 
-pub told_end : (told now new : Option Text) (into : Text) (start room left : ℕ) → GoesIfTold 1048577 told now into start room → Steps (Ok None) now room new left → left ≡ start → IfSome told (λ bytes. Answers (Ok End) bytes start into new left)
-told_end None now new into start room left goes step same = tt
-told_end (Some all) None new into start room left goes step same = absurd goes
-told_end (Some all) (Some rest) new into start room left goes step same =
-    let nothing : line_size rest ≡ 0 = ap line_size step.2 in
-    let size = front_size all goes.front rest goes.split goes.within in
-    (line_size-none all (omega (arith, goes.spent, step.0)), step.1 ∙ ap Some step.2, same)
-
 pub told_last : (e : LineEnd) (told now new : Option Text) (into : Text) (start room left : ℕ) → GoesIfTold 1048577 told now into start room → Steps (Ok None) now room new left → left ≢ start → room ≤ start → e ≡ cond (nat_lt (length into) 1048577) Line TooLong → IfSome told (λ bytes. Answers (Ok e) bytes start into new left)
 told_last e None now new into start room left goes step other within is = tt
 told_last e (Some all) None new into start room left goes step other within is = absurd goes
@@ -126,19 +114,6 @@ told_line e (Some all) (Some rest) (Some more) into start room left b goes step 
     })
 
 -- ---- the end of input
-
-pub met_err : (e : LinesFault) (told : Option Text) (before now after : Bool) → now ≡ before → StepsToEnd (Err e) now after → IfSome told (λ bytes. MeetsEnd (Err e) bytes before after)
-met_err e None before now after same step = tt
-met_err ReadFault (Some all) before now after same step = sym same ∙ step
-met_err TooMuch (Some all) before now after same step = tt
-met_err Memory (Some all) before now after same step = tt
-
--- at a last line with no LF
-pub met_last : (e : LineEnd) (told : Option Text) (before after : Bool) → after ≡ true → IfSome told (λ bytes. MeetsEnd (Ok e) bytes before after)
-met_last e None before after met = tt
-met_last Line (Some all) before after met = λ other. absurd (cc)
-met_last TooLong (Some all) before after met = λ other. absurd (cc)
-met_last End (Some all) before after met = met
 
 -- at a line with its LF
 met_by : (t : Bool) (e : LineEnd) (bytes : Text) (before after : Bool) → e ≡ cond t Line TooLong → after ≡ before → HasLineFeed bytes → MeetsEnd (Ok e) bytes before after

@@ -1,9 +1,9 @@
 -- What is told, step by step.
-use Rattle.std.proofs.Common.{◌≡◌, ◌+◌, ◌-◌, ◌++◌, ℕ, List, [], Option, Some, None, length, take, drop, refl, sym, ap, ◌∙◌, append_assoc, rules}
+use Rattle.std.proofs.Common.{◌≡◌, ◌+◌, ◌-◌, ◌++◌, ℕ, List, Option, Some, None, length, take, drop, refl, sym, ap, ◌∙◌, append_assoc, rules}
 use Rattle.std.proofs.lemmas.Option.{same_Some}
 use Rattle.std.proofs.lemmas.List.{take_rest}
 use Rattle.std.proofs.Math.Seq.{take-add}
-use Rattle.zw_io.specs.Told.{Appends, held_then, until_end}
+use Rattle.zw_io.specs.Told.{Appends}
 
 -- nothing more
 pub appends_none : (old : Option (List ℕ)) (bytes : List ℕ) → Appends old old (take 0 bytes)
@@ -22,8 +22,3 @@ appends_more (Some o) (Some m) new first more bytes a b e =
 -- a front of the bytes, and n bytes of what is left of them
 pub take_piece : (at n : ℕ) (bytes : List ℕ) → take at bytes ++ take n (take (length bytes - at) (drop at bytes)) ≡ take (at + n) bytes
 take_piece at n bytes = ap (λ rest. take at bytes ++ take n rest) (take_rest bytes at) ∙ sym (take-add at n bytes)
-
--- nothing is held, so that what is left is what is told
-pub held_none : (held : List ℕ) (told : Option (List ℕ)) → held ≡ [] → held_then held told ≡ told
-held_none held None none = refl
-held_none held (Some rest) none = rw none refl

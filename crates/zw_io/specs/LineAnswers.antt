@@ -1,5 +1,5 @@
 -- What the lines of a source answer.
-use Rattle.std.specs.Prelude.{◌≡◌, ◌≤◌, ◌<◌, ◌+◌, ℕ, List, [], ◌∷◌, Bool, true, false, Option, Some, None, Result, Ok, Err, IfSome, option_map, if◌then◌else◌, nat_lt, ◌++◌, length, take}
+use Rattle.std.specs.Prelude.{◌≡◌, ◌≤◌, ◌<◌, ◌+◌, ℕ, [], ◌∷◌, Bool, true, false, Option, Some, None, Result, Ok, Err, IfSome, option_map, if◌then◌else◌, nat_lt, ◌++◌, length, take}
 use Rattle.zw_def.specs.Text.{Text}
 use Rattle.zw_def.specs.Line.{line_of, after_line, line_size}
 use Rattle.zw_io.specs.Told.{Rose}

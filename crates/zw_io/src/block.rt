@@ -1,5 +1,5 @@
 // The bytes taken from a source and not yet given.
-ghost use Rattle.std.specs.Prelude.{◌≡◌, ◌≤◌, ◌<◌, ◌∷◌, [], List, ℕ, length, ◌≢◌, ◌++◌, IfOk, OnOk, OnErr, IfSome, Option, IsTrue, ◌↔◌, vec_len, take, ◌⊎◌};
+ghost use Rattle.std.specs.Prelude.{◌≡◌, ◌≤◌, ◌<◌, ◌∷◌, [], length, ◌≢◌, IfOk, OnOk, OnErr, IfSome, IsTrue, ◌↔◌, take};
 ghost use Rattle.zw_io.specs.Told.{HasCause, held_then};
 
 use crate::{Failed, Source};
@@ -8,6 +8,7 @@ use std::marker::Model;
 /// How many bytes one call of the source is asked for.
 pub const BLOCK: usize = 4096;
 
+/// Bytes that were taken from a source and not yet given.
 #[derive(Drop)]
 pub struct Block {
     cells: [u8; BLOCK],
@@ -26,6 +27,7 @@ impl Model for Block {
 }
 
 impl Block {
+    /// A block that holds no bytes.
     pub fn new() -> Block
         ensures { result ≡ [] }
     {
@@ -36,6 +38,7 @@ impl Block {
         }
     }
 
+    /// Whether it holds no bytes.
     pub fn is_empty(&self) -> bool
         ensures { IsTrue result ↔ (self.now ≡ []) }
     {

@@ -3,7 +3,7 @@ ghost use Rattle.std.specs.Prelude.{◌≡◌, ℕ, Option, IfOk, IfSome, IsTrue
 ghost use Rattle.zw_def.specs.Folder.{Listing, bytes_at};
 ghost use Rattle.zw_io.specs.FolderAnswers.{ListsIfTold, AppendsFile, AppendsMost, CountsFail, SetsPath, pairs};
 
-/// Why a call of a folder gives nothing.
+/// Why a call of a folder gives nothing: the folder failed and counted it, or memory ran out.
 #[derive(Clone, Copy, Debug, PartialEq, Eq)]
 pub enum Fail {
     Failed,
@@ -32,7 +32,7 @@ pub trait Folder {
         ensures cause { CountsFail result (faults self.old) (faults self.new) };
 }
 
-/// Files in memory. It fails at the calls numbered in `fails`, from 1.
+/// Files in memory. It fails at the calls numbered in `fails`, from 1, where the calls of all methods are numbered together.
 #[derive(Drop)]
 pub struct MemFolder {
     files: Vec<(String, Vec<u8>)>,
@@ -47,6 +47,7 @@ impl MemFolder {
     ghost use Rattle.zw_io.specs.Fakes.{folder_listing, folder_faults};
     ghost use Rattle.zw_io.specs.FolderAnswers.{CountsFail, pairs};
 
+    /// A folder of these files, each under its path, of which none is listed yet.
     pub fn new(files: Vec<(String, Vec<u8>)>, fails: Vec<u64>) -> MemFolder
         ensures files { (folder_listing result).files ≡ pairs files.items }
         ensures place { (folder_listing result).place ≡ 0 }

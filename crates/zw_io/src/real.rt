@@ -6,11 +6,10 @@ ghost use Rattle.zw_io.specs.FolderAnswers.{CountsFail};
 use crate::folder::set_path;
 use crate::{Fail, Failed, Folder, Sink, Source};
 use std::alloc::Global;
-use std::fs;
 use std::fs::DirEntry;
-use std::io;
 use std::io::{ErrorKind, Read, Write};
 use std::rt::Files;
+use std::{fs, io};
 
 /// A reader as a source.
 #[derive(Drop)]

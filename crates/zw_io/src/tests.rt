@@ -59,7 +59,10 @@ fn lines_end_with_lf_or_the_stream(rt: HostRuntime) -> Result<(), Fail> {
             let bytes = stream.as_bytes().to_vec(rt.alloc())?;
             let mut source = MemSource::new(bytes, piece, Vec::new(rt.alloc()));
             let (text, fault) = given(&rt, rt.alloc(), &mut source)?;
-            assert!(rt; text.as_slice() == wanted.as_bytes(), "at {stream:?} in pieces of {piece}");
+            assert!(rt;
+                text.as_slice() == wanted.as_bytes(),
+                "at {stream:?} in pieces of {piece}"
+            );
             assert!(rt; fault == None, "at {stream:?} in pieces of {piece}");
         }
     }
@@ -81,7 +84,10 @@ fn a_failed_read_is_told(rt: HostRuntime) -> Result<(), Fail> {
         let bytes = stream.as_bytes().to_vec(rt.alloc())?;
         let mut source = MemSource::new(bytes, piece, fails(rt.alloc(), at)?);
         let (text, fault) = given(&rt, rt.alloc(), &mut source)?;
-        assert!(rt; text.as_slice() == wanted.as_bytes(), "at {stream:?}, call {at}");
+        assert!(rt;
+            text.as_slice() == wanted.as_bytes(),
+            "at {stream:?}, call {at}"
+        );
         assert!(rt; fault == wanted_fault, "at {stream:?}, call {at}");
     }
     Ok(())

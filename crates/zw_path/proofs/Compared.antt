@@ -1,9 +1,10 @@
 -- Paths compared through the texts of their components.
-use Rattle.std.proofs.Common.{◌≡◌, ◌<◌, ◌≤◌, Bool, true, false, ◌&&◌, List, [], ◌∷◌, length, take, map, refl, ap, sym, ◌∙◌, arith}
+use Rattle.std.proofs.Common.{◌≡◌, ◌<◌, ◌≤◌, false, ◌&&◌, List, [], ◌∷◌, length, take, map, refl, ap, sym, ◌∙◌, arith}
 use Rattle.std.specs.Ordering.{nat_cmp, ordering_then}
 use Rattle.std.specs.Str.{bytes_eq}
 use Rattle.std.specs.Cmp.Lexicographic.{slice_cmp, pointwise, nat_list_eq_equiv}
 use Rattle.std.specs.Bool.{Decides}
+use Rattle.std.proofs.lemmas.Bool.{and_right}
 use Rattle.std.proofs.lemmas.List.{take-map, length-map}
 use Rattle.std.proofs.lemmas.Slice.Eq.{slice_eq-Decides, bytes_eq-Decides}
 use Rattle.zw_def.specs.Text.{Text}
@@ -32,10 +33,7 @@ below_longer (y ∷ d) (x ∷ p) h = λ i. nat_list_eq_equiv.symm y x i && below
 below_shorter : (d p : Path) → length p ≤ length d → is_below p d ≡ false
 below_shorter d [] h = refl
 below_shorter [] (x ∷ p) h = absurd (omega arith)
-below_shorter (y ∷ d) (x ∷ p) h = ap (λ b. bytes_eq x y && b) (below_shorter d p (omega arith)) ∙ and_false (bytes_eq x y) where
-  and_false : (b : Bool) → (b && false) ≡ false
-  and_false true = refl
-  and_false false = refl
+below_shorter (y ∷ d) (x ∷ p) h = and_right (bytes_eq x y) (is_below p d) (below_shorter d p (omega arith))
 
 module _ {A : Type 0} (f : A → Text) (ds ps : List A) (d p : Path) (directory : map f ds ≡ d) (path : map f ps ≡ p) where
   pub below-longer : length ds < length ps → pointwise (λ x y. bytes_eq (f x) (f y)) ds (take (length ds) ps) ≡ is_below p d

@@ -2,7 +2,7 @@
 use Rattle.std.proofs.Common.{◌≡◌, ◌↔◌, ℕ, ◌<◌, ◌≤◌, zero, suc, Bool, true, false, not, ◌&&◌, cond, eqb, leb, List, [], ◌∷◌, ◌++◌, length, get_or, take, Option, Some, None, IsSome, refl, ap, sym, ◌∙◌, arith}
 use Rattle.std.specs.List.{list_all}
 use Rattle.std.specs.Option.{option_or, is_some}
-use Rattle.std.proofs.lemmas.Bool.{le-leb}
+use Rattle.std.proofs.lemmas.Bool.{le-leb, and_parts}
 use Rattle.zw_def.specs.Text.{Text}
 use Rattle.zw_def.specs.Path.{Path, is_dots, is_component, is_component_byte, components, path_of}
 use Rattle.zw_path.specs.Fault.{is_empty, begins_with_slash, component_fault, first_fault, path_fault}
@@ -12,10 +12,6 @@ use Rattle.zw_path.specs.declared.path.PathFault.TheVariants.{Empty, Dots, Absol
 both_none : (o p : Option PathFault) → option_or o p ≡ None → (o ≡ None) × (p ≡ None)
 both_none None p e = (refl, e)
 both_none (Some x) p e = cc
-
-both_true : (a b : Bool) → (a && b) ≡ true → (a ≡ true) × (b ≡ true)
-both_true true b e = (refl, e)
-both_true false b e = cc
 
 -- the first piece with a fault is at the place n
 pub first_fault_at : (all : List Text) (n : ℕ) (text : Text) (fault : PathFault) → n < length all → text ≡ get_or all n text → first_fault (take n all) ≡ None → component_fault text ≡ Some fault → first_fault all ≡ Some fault
@@ -60,7 +56,7 @@ fault_from_component (b ∷ bs) e =
 fault_from_whole : (all : List Text) → list_all is_component all ≡ true → first_fault all ≡ None
 fault_from_whole [] e = refl
 fault_from_whole (t ∷ ts) e =
-    let both = both_true (is_component t) (list_all is_component ts) e in
+    let both = and_parts (is_component t) (list_all is_component ts) e in
     (λ i. option_or (fault_from_component t both.0 i) (first_fault ts)) ∙ fault_from_whole ts both.1
 
 relative : (text : Text) → list_all is_component (components text) ≡ true → begins_with_slash text ≡ false

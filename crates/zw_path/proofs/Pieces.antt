@@ -26,7 +26,7 @@ joined_after c (suc n) (p ∷ q ∷ more) x h e = ap (λ t. p ++ c ∷ t) (joine
 
 -- the front of a path, with one more component
 pub joined_more : (c n : ℕ) (path : Path) (x : Text) → n + 1 < length path → x ≡ get_or path (n + 1) x → joined c (take (n + 1 + 1) path) ≡ joined c (take (n + 1) path) ++ c ∷ x
-joined_more c n path x = rw (add-one, add-one) (joined_after c n path x)
+joined_more c n path x = rw (add-one n, add-one (suc n)) (joined_after c n path x)
 
 -- the base name is that of the last component
 pub base_at : (path : Path) (n : ℕ) (d : Text) → n + 1 ≡ length path → base_of path ≡ without_rb (get_or path n d)

@@ -9,7 +9,7 @@ use Rattle.std.proofs.lemmas.Str.Ascii.{IsAscii-nil, IsAscii-cons}
 use Rattle.zw_def.specs.Text.{is_digit, is_upper, is_lower, pieces}
 use Rattle.zw_def_world.specs.ClassFile.{is_class_byte, is_class_word, is_class_name, is_method_byte, is_method_word, is_method_name, is_numeral, reserved_class_names, reserved_method_names}
 
-all_ascii : (p : ℕ → Bool) → ((b : ℕ) → p b ≡ true → b < 128) → (bs : List ℕ) → list_all p bs ≡ true → IsAscii bs
+pub all_ascii : (p : ℕ → Bool) → ((b : ℕ) → p b ≡ true → b < 128) → (bs : List ℕ) → list_all p bs ≡ true → IsAscii bs
 all_ascii p below [] all = IsAscii-nil
 all_ascii p below (b ∷ bs) all =
     let parts = and_parts (p b) (list_all p bs) all in

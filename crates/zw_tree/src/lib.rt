@@ -8,6 +8,5 @@ pub mod tree;
 
 pub use tree::{File, Tree};
 
-
 #[cfg(test)]
 mod tests;

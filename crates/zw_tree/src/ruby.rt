@@ -22,5 +22,7 @@ pub fn is_ruby(path: &Path) -> bool
 {
     let components = path.components();
     ends_in_rb(&components[components.len() - 1])
-        && !components.iter().any(|component| begins_with_dot(component))
+        && !components
+            .iter()
+            .any(|component| begins_with_dot(component))
 }

@@ -44,8 +44,8 @@ fn listing(rt: HostRuntime) -> Result<(), Fail> {
     ];
     assert!(rt; tree.len() == in_order.len());
     for (file, text) in tree.files().iter().zip(in_order) {
-        assert!(rt; file.path.text(rt.alloc())?.as_str() == text, "at {text:?}");
-        assert!(rt; tree.text(&file.path) == Some(text.as_bytes()), "at {text:?}");
+        assert!(rt; file.path.text(rt.alloc())?.as_str() == text);
+        assert!(rt; tree.text(&file.path) == Some(text.as_bytes()));
     }
     Ok(())
 }

@@ -85,9 +85,9 @@ impl Tree {
     fn is_in_the_way(&self, path: &Path) -> bool
         ensures { result ≡ is_in_the_way self.now path.now }
     {
-        self.files
-            .iter()
-            .any(|file| file.path == *path || file.path.is_below(path) || path.is_below(&file.path))
+        self.files.iter().any(|file| file.path == *path
+            || file.path.is_below(path)
+            || path.is_below(&file.path))
     }
 
     /// Puts a file at its place in path order, over no other: ask `admits` first.

@@ -1,5 +1,4 @@
-use Rattle.std.proofs.Common.{◌≡◌, ◌+◌, ◌∙◌, ap, sym, map, length, refl, arith}
-use Rattle.zw_def.specs.Tree.{size_of}
+use Rattle.std.proofs.Common.{◌∙◌, ap, map, refl, arith}
 use Rattle.zw_tree.specs.Seen.{file_seen}
 use Rattle.zw_tree.proofs.Place.{place_in, told_with_file, told_size, place_within}
 use Rattle.zw_tree.proofs.tree.Tree.put.Goals as goal

@@ -1,0 +1,5 @@
+class User
+def self.size
+40
+end
+end

@@ -1,0 +1,6 @@
+use Rattle.std.proofs.Common.{rules}
+use Rattle.zw_top.proofs.Streams.{cut_line}
+use Rattle.zw_top.proofs.stream.cut_short.Goals as goal
+
+pub returns-in-Err-put_line-clause-cuts : goal.returns-in-Err-put_line-clause-cuts
+returns-in-Err-put_line-clause-cuts g c = cut_line c.in-Err-put_line.status c.args.fault _ _ _ c.in-TooMuch.is c.in-Ok.ensures.ok c.in-Err-put_line.ensures.puts

@@ -1,0 +1,4 @@
+pub mod Refusals
+pub mod Starts
+pub mod Replies
+pub mod Runs

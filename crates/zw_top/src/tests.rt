@@ -1,0 +1,256 @@
+// Whole sessions over objects in memory.
+use crate::{Status, run};
+use std::alloc::Global;
+use std::process::Abort;
+use std::test::Fail;
+use zw_io::{MemFolder, MemSink, MemSource};
+
+const CONFIGURATION: &str = "reloading = true\n[[root]]\npath = \"m\"\n";
+
+const USER: &str = "class User\ndef self.size\n40\nend\nend\n";
+
+#[derive(Clone, Copy)]
+struct Row {
+    words: &'static str,
+    configuration: &'static str,
+    path: &'static str,
+    text: &'static str,
+    stream: &'static str,
+    piece: usize,
+    folder_fails: u64,
+    source_fails: u64,
+    sink_fails: u64,
+    output: &'static str,
+    status: Status,
+}
+
+const PLAIN: Row = Row {
+    words: "zw.toml",
+    configuration: CONFIGURATION,
+    path: "m/user.rb",
+    text: USER,
+    stream: "run User.size\n",
+    piece: 4096,
+    folder_fails: 0,
+    source_fails: 0,
+    sink_fails: 0,
+    output: "= 40\n",
+    status: Status::Done,
+};
+
+fn fails(alloc: Global, at: u64) -> Result<Vec<u64>, Fail> {
+    let mut all = Vec::new(alloc);
+    if at > 0 {
+        all.push(at)?;
+    }
+    Ok(all)
+}
+
+fn words_of(alloc: Global, text: &str) -> Result<Vec<String>, Fail> {
+    let mut words = Vec::new(alloc);
+    for word in text.split(' ') {
+        if !word.is_empty() {
+            words.push(String::from_str(alloc, word)?)?;
+        }
+    }
+    Ok(words)
+}
+
+// The file under the path, and the configuration where it has a text.
+fn folder_of(alloc: Global, row: &Row) -> Result<MemFolder, Fail> {
+    let mut files = Vec::new(alloc);
+    if !row.configuration.is_empty() {
+        let bytes = row.configuration.as_bytes().to_vec(alloc)?;
+        files.push((String::from_str(alloc, "zw.toml")?, bytes))?;
+    }
+    if !row.path.is_empty() {
+        let bytes = row.text.as_bytes().to_vec(alloc)?;
+        files.push((String::from_str(alloc, row.path)?, bytes))?;
+    }
+    Ok(MemFolder::new(files, fails(alloc, row.folder_fails)?))
+}
+
+fn try_row(rt: &impl Abort, alloc: Global, row: &Row) -> Result<(), Fail> {
+    assert!(rt; row.piece > 0);
+    let words = words_of(alloc, row.words)?;
+    let mut folder = folder_of(alloc, row)?;
+    let bytes = row.stream.as_bytes().to_vec(alloc)?;
+    let mut source = MemSource::new(bytes, row.piece, fails(alloc, row.source_fails)?);
+    let mut sink = MemSink::new(alloc, row.piece, fails(alloc, row.sink_fails)?);
+    let status = run(alloc, &words, &mut folder, &mut source, &mut sink);
+    let stream = row.stream;
+    assert!(rt; status == row.status, "status at {stream:?}");
+    assert!(rt;
+        sink.taken() == row.output.as_bytes(),
+        "output at {stream:?}"
+    );
+    Ok(())
+}
+
+// The first run, and the folder with no file and an empty stream, in pieces of several sizes.
+#[test]
+fn first_runs(rt: HostRuntime) -> Result<(), Fail> {
+    for piece in [1, 2, 6, 4096] {
+        try_row(&rt, rt.alloc(), &Row { piece, ..PLAIN })?;
+        let empty = Row {
+            path: "",
+            stream: "",
+            output: "",
+            piece,
+            ..PLAIN
+        };
+        try_row(&rt, rt.alloc(), &empty)?;
+    }
+    Ok(())
+}
+
+// Each call of the folder, of the source and of the sink fails in turn.
+#[test]
+fn failing_calls(rt: HostRuntime) -> Result<(), Fail> {
+    for at in [1, 2, 3, 4, 5] {
+        let row = Row {
+            folder_fails: at,
+            output: "",
+            status: Status::FolderFault,
+            ..PLAIN
+        };
+        try_row(&rt, rt.alloc(), &row)?;
+    }
+    let source = [(1, ""), (2, "= 40\n")];
+    for (at, output) in source {
+        let row = Row {
+            source_fails: at,
+            output,
+            status: Status::ReadFault,
+            ..PLAIN
+        };
+        try_row(&rt, rt.alloc(), &row)?;
+    }
+    let sink = [(1, ""), (2, "= "), (3, "= 40")];
+    for (at, output) in sink {
+        let row = Row {
+            piece: 2,
+            sink_fails: at,
+            output,
+            status: Status::WriteFault,
+            ..PLAIN
+        };
+        try_row(&rt, rt.alloc(), &row)?;
+    }
+    Ok(())
+}
+
+// The stream ends within a line, and a read fails there: what stood whole is answered.
+#[test]
+fn read_faults(rt: HostRuntime) -> Result<(), Fail> {
+    let row = Row {
+        stream: "run User.size\nrun User.size\n",
+        piece: 14,
+        source_fails: 2,
+        output: "= 40\n",
+        status: Status::ReadFault,
+        ..PLAIN
+    };
+    let later = Row {
+        piece: 10,
+        source_fails: 3,
+        ..row
+    };
+    for row in [row, later] {
+        try_row(&rt, rt.alloc(), &row)?;
+    }
+    Ok(())
+}
+
+#[test]
+fn answers(rt: HostRuntime) -> Result<(), Fail> {
+    let rows = [
+        (
+            "run User.age\n",
+            "! NoMethodError: undefined method 'age' for class User\n",
+        ),
+        (
+            "run Car.size\n",
+            "! NameError: uninitialized constant Car\n",
+        ),
+        ("\n \t\n\r\nrun User.size\r\n", "= 40\n"),
+        ("run User.size", "= 40\n"),
+        (
+            "frob\nrun User.name\nrun\n# x\n",
+            "? not built\n? not built\n? not built\n? not built\n",
+        ),
+        (
+            "run  User.size\nrun User.size \n",
+            "? not built\n? not built\n",
+        ),
+    ];
+    for (stream, output) in rows {
+        try_row(
+            &rt,
+            rt.alloc(),
+            &Row {
+                stream,
+                output,
+                ..PLAIN
+            },
+        )?;
+    }
+    Ok(())
+}
+
+#[test]
+fn refusals(rt: HostRuntime) -> Result<(), Fail> {
+    let usage = "usage: zw [--budget N] [--log] [--steps] [--eager] CONFIG\n";
+    for words in ["", "zw.toml zw.toml", "../zw.toml", "/zw.toml"] {
+        let row = Row {
+            words,
+            output: usage,
+            status: Status::Usage,
+            ..PLAIN
+        };
+        try_row(&rt, rt.alloc(), &row)?;
+    }
+    let configurations = [
+        ("", "config: missing\n"),
+        ("reloading = true\n", "config: not built\n"),
+        ("[[root]]\npath = \"m/n\"\n", "config: not built\n"),
+        ("[[root]]\npath = \"\"\n", "config: not built\n"),
+        ("[[root]]\npath = \"m\"", "config: not built\n"),
+    ];
+    for (configuration, output) in configurations {
+        let row = Row {
+            configuration,
+            output,
+            status: Status::Config,
+            ..PLAIN
+        };
+        try_row(&rt, rt.alloc(), &row)?;
+    }
+    let files = [
+        ("m/a/user.rb", USER, "not built: m/a/user.rb\n"),
+        ("m/User.rb", USER, "not built: m/User.rb\n"),
+        (
+            "m/string.rb",
+            "class String\nend\n",
+            "not built: m/string.rb\n",
+        ),
+        ("m/car.rb", USER, "not built: m/car.rb\n"),
+        ("m/user.rb", "class User\nend", "not built: m/user.rb\n"),
+        (
+            "m/user.rb",
+            "class User\ndef self.size\n040\nend\nend\n",
+            "not built: m/user.rb\n",
+        ),
+    ];
+    for (path, text, output) in files {
+        let row = Row {
+            path,
+            text,
+            output,
+            status: Status::Config,
+            ..PLAIN
+        };
+        try_row(&rt, rt.alloc(), &row)?;
+    }
+    Ok(())
+}
