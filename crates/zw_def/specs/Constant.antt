@@ -6,7 +6,7 @@ use Rattle.unicode_ident.specs.Ident.{is_xid_continue}
 use Rattle.zw_def.specs.Text.{Text, pieces, is_upper, is_lower}
 
 -- characters that make a constant's name: the first is `A` to `Z`, the others continue an identifier
--- (UAX 31, XID_Continue; ISO/IEC 30170, 8.7.6.3, constant-identifier)
+-- (UAX 31, XID_Continue; ISO/IEC 30170, 8.7.3, constant-identifier)
 abbrev pub is_constant_of : List ℕ → Bool
 is_constant_of [] = false
 is_constant_of (c ∷ cs) = is_upper c && list_all is_xid_continue cs

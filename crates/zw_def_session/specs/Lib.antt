@@ -1,2 +1,3 @@
 pub mod Start
+pub mod Command
 pub mod Output

@@ -1,13 +1,13 @@
 -- What a session writes: a list of line groups, and how it ends.
-use Rattle.std.specs.Prelude.{ℕ, Bool, List, [], ◌∷◌, ◌++◌, Result, Ok, Err, ◌&&◌, not, if◌then◌else◌, codes, nat_lt, length, take, map}
-use Rattle.std.specs.List.{list_all, concat}
+use Rattle.std.specs.Prelude.{ℕ, Bool, true, false, List, [], ◌∷◌, ◌++◌, Option, Some, None, Result, Ok, Err, ◌&&◌, not, if◌then◌else◌, codes, nat_lt, length, take, map}
+use Rattle.std.specs.List.{concat, list_any}
 use Rattle.std.specs.Option.{option_map_or}
-use Rattle.std.specs.Str.Lines.{strip_carriage_return}
-use Rattle.zw_def.specs.Text.{Text, after_prefix}
+use Rattle.zw_def.specs.Text.{Text}
 use Rattle.zw_def.specs.Line.{lines_of, whole_lines}
 use Rattle.zw_def.specs.Folder.{Listing}
-use Rattle.zw_def_world.specs.ClassFile.{is_blank}
-use Rattle.zw_def_world.specs.Evaluation.{World, call_of, evaluated, line_of_ending}
+use Rattle.zw_def_world.specs.Evaluation.{World, Expression, Outcome, expression_of, evaluated, line_of_ending}
+use Rattle.zw_def_session.specs.Command.{Command, Reason, nothing, end, run, too_long, not_utf8, unknown, bad_argument, not_built, command_of}
+use Rattle.zw_def_session.specs.Command as command
 use Rattle.zw_def_session.specs.Start.{Refusal, Ending, done, limit, line_of_refusal, ending_of_refusal, started}
 
 -- lines that are written together, each without its LF
@@ -24,35 +24,54 @@ pub record Output : Type 0 where
   pub groups : List Group
   pub ending : Ending
 
--- ---- one line of the stream
+-- ---- one command
 
-abbrev pub is_long : Text → Bool
-is_long line = nat_lt 1048576 (length line)
+abbrev pub line_of_reason : Reason → Text
+line_of_reason too_long = codes "? line too long"
+line_of_reason not_utf8 = codes "? not UTF-8"
+line_of_reason unknown = codes "? unknown command"
+line_of_reason bad_argument = codes "? bad argument"
+line_of_reason not_built = codes "? not built"
 
--- a line that is passed over: blanks alone
-abbrev pub is_skipped : Text → Bool
-is_skipped line = not (is_long line) && list_all is_blank (strip_carriage_return line)
+-- what a command answers: nothing, the end of the session, or a line and the world after it
+pub data Answer : Type 0 where
+  passed : Answer
+  ended : Answer
+  answered : Text → World → Answer
 
-abbrev pub not_built : Text
-not_built = codes "? not built"
+abbrev pub answered_by : Outcome → Answer
+answered_by outcome = answered (line_of_ending outcome.ending) outcome.world
 
--- what the command `run` answers to an expression
-abbrev pub answer_to_run : World → Text → Text
-answer_to_run world text = option_map_or (λ call. line_of_ending (evaluated world call)) (call_of text) not_built
+abbrev pub answer_to_run : World → Text → Answer
+answer_to_run world text = option_map_or (λ e. answered_by (evaluated world e)) (expression_of text) (answered (line_of_reason not_built) world)
 
-abbrev pub answer_to_command : World → Text → Text
-answer_to_command world line = option_map_or (answer_to_run world) (after_prefix (codes "run ") line) not_built
-
--- what a line that is not passed over answers
-abbrev pub answer : World → Text → Text
-answer world line = if is_long line then not_built else answer_to_command world (strip_carriage_return line)
+abbrev pub answer_to : World → Command → Answer
+answer_to world nothing = passed
+answer_to world end = ended
+answer_to world (run text) = answer_to_run world text
+answer_to world (command.refused reason) = answered (line_of_reason reason) world
 
 -- ---- the stream
 
--- the groups of the commands that stand in these lines
+-- the groups that an answer gives, before those of the later lines in the world that it leaves
+abbrev pub groups_after : Answer → World → (World → List Group) → List Group
+groups_after passed world later = later world
+groups_after ended world later = []
+groups_after (answered line next) world later = (line ∷ []) ∷ later next
+
+-- the groups of the commands that stand in these lines, up to `end`
 abbrev pub groups_of : World → List Text → List Group
 groups_of world [] = []
-groups_of world (line ∷ lines) = if is_skipped line then groups_of world lines else (answer world line ∷ []) ∷ groups_of world lines
+groups_of world (line ∷ lines) = groups_after (answer_to world (command_of line)) world (λ next. groups_of next lines)
+
+abbrev pub is_end : Command → Bool
+is_end nothing = false
+is_end end = true
+is_end (run text) = false
+is_end (command.refused reason) = false
+
+abbrev pub has_end : List Text → Bool
+has_end lines = list_any (λ line. is_end (command_of line)) lines
 
 -- there are more bytes than may be read
 abbrev pub is_over : ℕ → Text → Bool
@@ -62,16 +81,23 @@ is_over room bytes = nat_lt room (length bytes)
 abbrev pub lines_within : ℕ → Text → List Text
 lines_within room bytes = if is_over room bytes then whole_lines (take room bytes) else lines_of bytes
 
--- the last group of a stream that is too long
+-- the stream is cut: there are more bytes than may be read, and no `end` among the commands
+abbrev pub is_cut : Bool → List Text → Bool
+is_cut over lines = over && not (has_end lines)
+
 abbrev pub last_groups : Bool → List Group
-last_groups over = if over then (codes "limit: stream" ∷ []) ∷ [] else []
+last_groups cut = if cut then (codes "limit: stream" ∷ []) ∷ [] else []
+
+-- what these lines answer, where the stream may be over
+abbrev pub served_lines : Bool → World → List Text → Output
+served_lines over world lines = record {
+  groups = groups_of world lines ++ last_groups (is_cut over lines);
+  ending = if is_cut over lines then limit else done;
+}
 
 -- what a stream answers where so many bytes may be read
 unfoldable pub served : ℕ → World → Text → Output
-served room world bytes = record {
-  groups = groups_of world (lines_within room bytes) ++ last_groups (is_over room bytes);
-  ending = if is_over room bytes then limit else done;
-}
+served room world bytes = served_lines (is_over room bytes) world (lines_within room bytes)
 
 -- ---- the whole session
 

@@ -168,7 +168,7 @@ abbrev pub tree_of : Path → Listing → Start Tree
 tree_of fixed folder = listed folder >>= λ texts. mounted fixed folder.files [] texts
 
 abbrev pub world_of : Path → Tree → Start World
-world_of root tree = option_map_or (λ path. Err (other_file path)) (first_other root [] (visible root tree)) (Ok (record { root = root; tree = tree }))
+world_of root tree = option_map_or (λ path. Err (other_file path)) (first_other root (visible root tree)) (Ok (record { root = root; tree = tree; table = []; gone = [] }))
 
 -- ---- the start
 

@@ -17,7 +17,7 @@ abbrev pub is_class_word : Text → Bool
 is_class_word [] = false
 is_class_word (b ∷ bs) = is_upper b && list_all is_class_byte bs
 
--- the core classes and modules, and the two words in capitals that no constant may have (ISO/IEC 30170, 8.5.2, keywords)
+-- the core classes and modules, and the two words in capitals that no constant may have (ISO/IEC 30170, 8.7.2, keywords)
 unfoldable pub reserved_class_names : Text
 reserved_class_names = codes "ArgumentError Array BEGIN Class END Exception FalseClass FrozenError IndexError Integer Kernel LoadError Module NameError NilClass NoMethodError Object RangeError RuntimeError ScriptError StandardError String Symbol SyntaxError TrueClass TypeError ZeroDivisionError Zeitwerk"
 

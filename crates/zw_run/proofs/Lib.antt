@@ -1,6 +1,10 @@
 pub mod Ascii
 pub mod Camelized
+pub mod Carried
+pub mod Firsts
 pub mod Integers
 pub mod Methods
 pub mod Options
+pub mod Started
+pub mod Taken
 pub mod Worlds

@@ -12,7 +12,7 @@ use Rattle.zw_run.specs.Seen.{lines_seen}
 abbrev pub with_front : List Method → Option (List Method) → Option (List Method)
 with_front found more = option_map (λ methods. found ++ methods) more
 
-cons_at : {A : Type 0} (xs : List A) (i j : ℕ) (d : A) → i < length xs → suc i ≡ j → drop i xs ≡ get_or xs i d ∷ drop j xs
+pub cons_at : {A : Type 0} (xs : List A) (i j : ℕ) (d : A) → i < length xs → suc i ≡ j → drop i xs ≡ get_or xs i d ∷ drop j xs
 cons_at xs i j d within next = drop-cons xs i d within ∙ ap (λ k. get_or xs i d ∷ drop k xs) next
 
 three : {A : Type 0} (xs : List A) (at : ℕ) (d : A) → at + 2 < length xs → drop at xs ≡ get_or xs at d ∷ get_or xs (at + 1) d ∷ get_or xs (at + 2) d ∷ drop (at + 3) xs

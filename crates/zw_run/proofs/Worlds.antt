@@ -1,92 +1,213 @@
--- The classes of a session, against the map of its world.
-use Rattle.std.proofs.Common.{◌≡◌, ◌++◌, Bool, true, false, List, [], ◌∷◌, Option, Some, None, cond, find, refl, ap, ◌∙◌}
-use Rattle.std.specs.List.{filter_map, list_any}
-use Rattle.std.specs.Option.{option_and_then, option_map_or}
+-- What a session holds, against the map of its world.
+use Rattle.std.proofs.Common.{◌≡◌, ◌||◌, Bool, true, false, not, List, [], ◌∷◌, Option, Some, None, Result, Ok, Err, cond, option_map, find, refl, sym, ap, subst, ◌∙◌}
+use Rattle.std.specs.List.{filter_map, cons_option}
+use Rattle.std.specs.Option.{option_and_then, option_map_or, is_some}
 use Rattle.std.specs.Str.{bytes_eq}
-use Rattle.std.proofs.lemmas.Option.{same_Some}
-use Rattle.std.proofs.lemmas.Slice.Eq.{bytes_eq-Decides}
 use Rattle.zw_def.specs.Text.{Text}
 use Rattle.zw_def.specs.Path.{Path}
 use Rattle.zw_def.specs.Tree.{File}
-use Rattle.zw_def.specs.Map.{visible, expected_name, is_name}
-use Rattle.zw_def_world.specs.ClassFile.{ClassFile, class_file}
-use Rattle.zw_def_world.specs.Built.{class_in, first_other}
-use Rattle.zw_def_world.specs.Evaluation.{World, Call, evaluated, methods_in, method_named, gave, no_constant, no_method}
-use Rattle.zw_run.specs.World.{StandsFor, class_named, ending_in}
+use Rattle.zw_def.specs.Map.{visible, expected_name, is_name, file_for}
+use Rattle.zw_def_world.specs.ClassFile.{ClassFile}
+use Rattle.zw_def_world.specs.Built.{is_among, may_define, expected_names, first_other}
+use Rattle.zw_def_world.specs.Evaluation as defined
+use Rattle.zw_def_world.specs.Evaluation.{World, Found, Expression, integer, constant, call, class_named, opened, loaded, loaded_as, loaded_class, absent, missing, resolved, ending_by, called, gave, class_value, not_defined, no_constant, evaluated, line_of_ending}
+use Rattle.zw_run.specs.Held.{Held, Key, IdleFile, idle_file, without_file, spent, table_with, after_load, after, file_used, unset, answer_in, ending_in}
+use Rattle.zw_run.specs.World.{is_past, idle_by, key_named, key_by, keys_of, StandsFor, RunsTo}
+use Rattle.zw_run.proofs.Carried as carried
+use Rattle.zw_run.proofs.Taken.{joined}
+use Rattle.zw_run.proofs.Carried.{Whole, whole, same_text, equal_text, other_text}
 
--- ---- a file that is carried out
+-- ---- the file of a key
 
--- what first_other says of a file by its class
-abbrev pub other_by : Path → List Text → File → List File → Option ClassFile → Option Path
-other_by root earlier f fs found = option_map_or (λ c. cond (list_any (bytes_eq c.name) earlier) (Some f.path) (first_other root (earlier ++ c.name ∷ []) fs)) found (Some f.path)
+idle_if : (past : Text → Bool) (name : Text) (f : File) (n : Text) (ks : List Key) (later : Option File) (t : Bool) → bytes_eq n name ≡ t → idle_file name ks ≡ option_and_then (idle_by (past name)) later → option_and_then (λ k. k.file) (cond t (Some (key_named past f n)) (find (λ k. bytes_eq k.name name) ks)) ≡ option_and_then (idle_by (past name)) (cond t (Some f) later)
+idle_if past name f n ks later true is rest = ap (λ x. idle_by (past x) f) (same_text n name is)
+idle_if past name f n ks later false is rest = rest
 
-pub record Carried (root : Path) (earlier : List Text) (f : File) (fs : List File) : Type 0 where
-  pub class : ClassFile
-  pub is : class_in root f ≡ Some class
-  pub later : first_other root (earlier ++ class.name ∷ []) fs ≡ None
+idle_step : (past : Text → Bool) (name : Text) (f : File) (o : Option Text) (ks : List Key) (later : Option File) → idle_file name ks ≡ option_and_then (idle_by (past name)) later → idle_file name (cons_option (option_map (key_named past f) o) ks) ≡ option_and_then (idle_by (past name)) (cond (is_name name o) (Some f) later)
+idle_step past name f None ks later rest = rest
+idle_step past name f (Some n) ks later rest = idle_if past name f n ks later _ refl rest
 
-new_name : (root : Path) (earlier : List Text) (f : File) (fs : List File) (c : ClassFile) (t : Bool) → cond t (Some f.path) (first_other root (earlier ++ c.name ∷ []) fs) ≡ None → first_other root (earlier ++ c.name ∷ []) fs ≡ None
-new_name root earlier f fs c true none = cc
-new_name root earlier f fs c false none = none
+-- the file that a use of a name evaluates is the map's, where the constant is not past
+idle_keys : (past : Text → Bool) (root : Path) (name : Text) (fs : List File) → idle_file name (filter_map (key_by past root) fs) ≡ option_and_then (idle_by (past name)) (find (λ f. is_name name (expected_name root f)) fs)
+idle_keys past root name [] = refl
+idle_keys past root name (f ∷ fs) = idle_step past name f (expected_name root f) _ _ (idle_keys past root name fs)
 
-carried_by : (root : Path) (earlier : List Text) (f : File) (fs : List File) (found : Option ClassFile) → class_in root f ≡ found → other_by root earlier f fs found ≡ None → Carried root earlier f fs
-carried_by root earlier f fs None is none = absurd (cc)
-carried_by root earlier f fs (Some c) is none = record { class = c; is = is; later = new_name root earlier f fs c (list_any (bytes_eq c.name) earlier) none }
+idle_past : (t : Bool) (o : Option File) → t ≡ true → option_and_then (idle_by t) o ≡ None
+idle_past t None is = refl
+idle_past t (Some f) is = ap (λ b. idle_by b f) is
 
-carried : (root : Path) (earlier : List Text) (f : File) (fs : List File) → first_other root earlier (f ∷ fs) ≡ None → Carried root earlier f fs
-carried root earlier f fs none = carried_by root earlier f fs (class_in root f) refl none
+kept_if : (name : Text) (k : Key) (ks : List Key) (t : Bool) → (idle_file name ks ≡ None → without_file name ks ≡ ks) → option_and_then (λ x. x.file) (cond t (Some k) (find (λ x. bytes_eq x.name name) ks)) ≡ None → cond t (spent k ∷ ks) (k ∷ without_file name ks) ≡ k ∷ ks
+kept_if name k ks true rest none = ap (λ o. record { name = k.name; file = o } ∷ ks) (sym none)
+kept_if name k ks false rest none = ap (λ l. k ∷ l) (rest none)
 
--- ---- its class and its name
+kept : (name : Text) (ks : List Key) → idle_file name ks ≡ None → without_file name ks ≡ ks
+kept name [] none = refl
+kept name (k ∷ ks) none = kept_if name k ks (bytes_eq k.name name) (kept name ks) none
 
-pub record Expected (root : Path) (f : File) (c : ClassFile) : Type 0 where
-  pub read : class_file f.text ≡ Some c
-  pub name : expected_name root f ≡ Some c.name
+-- ---- the keys after a load
 
-name_by : (name : Text) (o : Option Text) → is_name name o ≡ true → o ≡ Some name
-name_by name None is = absurd (cc)
-name_by name (Some other) is = ap Some ((bytes_eq-Decides other name).0 is)
+or_right : (a b : Bool) → b ≡ true → (a || b) ≡ true
+or_right true b is = refl
+or_right false b is = is
 
-expected_if : (root : Path) (f : File) (c d : ClassFile) (t : Bool) → is_name d.name (expected_name root f) ≡ t → class_file f.text ≡ Some d → cond t (Some d) None ≡ Some c → Expected root f c
-expected_if root f c d true is read same =
-    let eq : d ≡ c = same_Some d c same in
-    record { read = read ∙ ap Some eq; name = name_by d.name _ is ∙ ap (λ x. Some x.name) eq }
-expected_if root f c d false is read same = absurd (cc)
+same_step : (past later : Text → Bool) (f : File) (o : Option Text) (names : List Text) (ks ls : List Key) → ((x : Text) → is_among (cons_option o names) x ≡ true → past x ≡ later x) → (((x : Text) → is_among names x ≡ true → past x ≡ later x) → ks ≡ ls) → cons_option (option_map (key_named past f) o) ks ≡ cons_option (option_map (key_named later f) o) ls
+same_step past later f None names ks ls same rest = rest same
+same_step past later f (Some n) names ks ls same rest =
+    let here : past n ≡ later n = same n (ap (λ t. t || is_among names n) (equal_text n)) in
+    let more : ks ≡ ls = rest (λ x is. same x (or_right (bytes_eq x n) (is_among names x) is)) in
+    λ i. record { name = n; file = idle_by (here i) f } ∷ more i
 
-expected_by : (root : Path) (f : File) (c : ClassFile) (o : Option ClassFile) → class_file f.text ≡ o → option_and_then (λ d. cond (is_name d.name (expected_name root f)) (Some d) None) o ≡ Some c → Expected root f c
-expected_by root f c None read same = absurd (cc)
-expected_by root f c (Some d) read same = expected_if root f c d _ refl read same
+-- keys are the same where the same names of theirs are past
+same_keys : (past later : Text → Bool) (root : Path) (fs : List File) → ((x : Text) → is_among (expected_names root fs) x ≡ true → past x ≡ later x) → filter_map (key_by past root) fs ≡ filter_map (key_by later root) fs
+same_keys past later root [] same = refl
+same_keys past later root (f ∷ fs) same = same_step past later f (expected_name root f) (expected_names root fs) _ _ same (same_keys past later root fs)
 
-expected : (root : Path) (f : File) (c : ClassFile) → class_in root f ≡ Some c → Expected root f c
-expected root f c is = expected_by root f c (class_file f.text) refl is
+-- one name is past now, and nothing else of theirs changes
+abbrev pub Turns : (Text → Bool) → (Text → Bool) → Text → List Text → Type 0
+Turns past later name names = (x : Text) → is_among names x ≡ true → (x ≡ name → ⊥) → past x ≡ later x
 
--- ---- the class of a name
+loaded_if : (past later : Text → Bool) (name n : Text) (f : File) (names : List Text) (ks ls : List Key) (t : Bool) → bytes_eq n name ≡ t → later name ≡ true → is_among names n ≡ false → Turns past later name (n ∷ names) → (((x : Text) → is_among names x ≡ true → past x ≡ later x) → ks ≡ ls) → (Turns past later name names → without_file name ks ≡ ls) → cond t (spent (key_named past f n) ∷ ks) (key_named past f n ∷ without_file name ks) ≡ key_named later f n ∷ ls
+loaded_if past later name n f names ks ls true is now fresh turns same rest =
+    let gone : later n ≡ true = ap later (same_text n name is) ∙ now in
+    let more : ks ≡ ls = same (λ x among. turns x (or_right (bytes_eq x n) (is_among names x) among) (λ eq. (let bad : false ≡ true = sym fresh ∙ ap (is_among names) (same_text n name is ∙ sym eq) ∙ among in cc))) in
+    λ i. record { name = n; file = sym (ap (λ b. idle_by b f) gone) i } ∷ more i
+loaded_if past later name n f names ks ls false is now fresh turns same rest =
+    let other : n ≡ name → ⊥ = λ eq. (let bad : true ≡ false = sym (equal_text n) ∙ ap (bytes_eq n) eq ∙ is in cc) in
+    let here : past n ≡ later n = turns n (ap (λ t. t || is_among names n) (equal_text n)) other in
+    let more : without_file name ks ≡ ls = rest (λ x among. turns x (or_right (bytes_eq x n) (is_among names x) among)) in
+    λ i. record { name = n; file = idle_by (here i) f } ∷ more i
 
--- the file of the map and the class of the session agree
-abbrev pub Agree : Option File → Option ClassFile → Type 0
-Agree None None = Unit {0}
-Agree (Some f) (Some c) = class_file f.text ≡ Some c
-Agree None (Some c) = ⊥
-Agree (Some f) None = ⊥
+loaded_keys : (past later : Text → Bool) (root : Path) (all : List Text) (name : Text) (fs : List File) → Whole root all fs → later name ≡ true → Turns past later name (expected_names root fs) → without_file name (filter_map (key_by past root) fs) ≡ filter_map (key_by later root) fs
+loaded_keys past later root all name [] w now turns = refl
+loaded_keys past later root all name (f ∷ fs) w now turns =
+    let n = w.0.self.name in
+    let is : expected_name root f ≡ Some n = w.0.is.expected in
+    let turned : Turns past later name (n ∷ expected_names root fs) = subst (λ o. Turns past later name (cons_option o (expected_names root fs))) is turns in
+    ap (λ o. without_file name (cons_option (option_map (key_named past f) o) (filter_map (key_by past root) fs))) is
+    ∙ loaded_if past later name n f (expected_names root fs) (filter_map (key_by past root) fs) (filter_map (key_by later root) fs) (bytes_eq n name) refl now w.0.fresh turned (same_keys past later root fs) (loaded_keys past later root all name fs w.1 now)
+    ∙ sym (ap (λ o. cons_option (option_map (key_named later f) o) (filter_map (key_by later root) fs)) is)
 
-agree_if : (f : File) (c : ClassFile) (files : Option File) (classes : Option ClassFile) (t : Bool) → class_file f.text ≡ Some c → Agree files classes → Agree (cond t (Some f) files) (cond t (Some c) classes)
-agree_if f c files classes true read rest = read
-agree_if f c files classes false read rest = rest
+-- ---- the table after a load
 
-agree : (root : Path) (name : Text) (earlier : List Text) (fs : List File) → first_other root earlier fs ≡ None → Agree (find (λ f. is_name name (expected_name root f)) fs) (class_named name (filter_map (class_in root) fs))
-agree root name earlier [] none = tt
-agree root name earlier (f ∷ fs) none =
-    let here = carried root earlier f fs none in
-    let is = expected root f here.class here.is in
-    let rest = agree root name (earlier ++ here.class.name ∷ []) fs here.later in
-    rw (here.is, is.name) (agree_if f here.class _ _ (bytes_eq here.class.name name) is.read rest)
+opened_if : (c class : ClassFile) (x : Text) (cs : List ClassFile) (t : Bool) → bytes_eq c.name class.name ≡ t → (class.name ≡ x → ⊥) → class_named x (opened cs class) ≡ class_named x cs → class_named x (cond t (joined class c ∷ cs) (c ∷ opened cs class)) ≡ class_named x (c ∷ cs)
+opened_if c class x cs true is other rest =
+    let no : bytes_eq c.name x ≡ false = other_text c.name x (λ eq. other (sym (same_text c.name class.name is) ∙ eq)) in
+    ap (λ t. cond t (Some (joined class c)) (class_named x cs)) no ∙ sym (ap (λ t. cond t (Some c) (class_named x cs)) no)
+opened_if c class x cs false is other rest = ap (cond (bytes_eq c.name x) (Some c)) rest
 
-evaluated_by : (call : Call) (file : Option File) (found : Option ClassFile) → Agree file found → option_map_or (λ f. option_map_or (λ m. gave m.value) (method_named call.method (methods_in f)) (no_method call.method call.class_name)) file (no_constant call.class_name) ≡ ending_in found call
-evaluated_by call None None agrees = refl
-evaluated_by call (Some f) (Some c) agrees = rw agrees refl
-evaluated_by call None (Some c) agrees = absurd agrees
-evaluated_by call (Some f) None agrees = absurd agrees
+-- a class that is opened changes nothing under other names
+opened_other : (cs : List ClassFile) (class : ClassFile) (x : Text) → (class.name ≡ x → ⊥) → class_named x (opened cs class) ≡ class_named x cs
+opened_other [] class x other = ap (λ t. cond t (Some class) None) (other_text class.name x other)
+opened_other (c ∷ cs) class x other = opened_if c class x cs (bytes_eq c.name class.name) refl other (opened_other cs class x other)
 
--- a call ends as the class that the session has for its name says
-pub evaluated_in : (world : World) (classes : List ClassFile) (call : Call) → StandsFor world classes → evaluated world call ≡ ending_in (class_named call.class_name classes) call
-evaluated_in world classes call stands =
-    rw stands.same (evaluated_by call _ _ (agree world.root call.class_name [] (visible world.root world.tree) stands.built))
+-- ---- a look-up
+
+-- what a session that stands for the world holds
+abbrev pub held_at : World → Held
+held_at world = record { keys = keys_of world; table = world.table }
+
+abbrev pub path_of : Option IdleFile → Option Path
+path_of file = option_map (λ f. f.path) file
+
+pub record Resolves (found : Found) (held : Held) (path : Option Path) (name : Text) : Type 0 where
+  pub answer : found.answer ≡ answer_in held.table path name
+  pub stands : StandsFor found.world held
+
+module _ (world : World) (name : Text) (built : first_other world.root (visible world.root world.tree) ≡ None) where
+  abbrev Here : Found → Type 0
+  Here found = Resolves found (after_load name (held_at world)) (path_of (idle_file name (keys_of world))) name
+
+  abbrev names : List Text
+  names = expected_names world.root (visible world.root world.tree)
+
+  nothing : (found : Found) → idle_file name (keys_of world) ≡ None → found.world ≡ world → found.answer ≡ answer_in world.table None name → Here found
+  nothing found idle same answer = record {
+    answer = answer ∙ sym (ap (λ o. answer_in (table_with o world.table) (path_of o) name) idle);
+    stands = subst (λ w. StandsFor w (after_load name (held_at world))) (sym same) record {
+      built = built;
+      keys = kept name (keys_of world) idle;
+      table = ap (λ o. table_with o world.table) idle;
+    };
+  }
+
+  idle_is : idle_file name (keys_of world) ≡ option_and_then (idle_by (is_past world name)) (file_for world.root world.tree name)
+  idle_is = idle_keys (is_past world) world.root name (visible world.root world.tree)
+
+  when_past : (found : Found) → is_past world name ≡ true → found.world ≡ world → found.answer ≡ answer_in world.table None name → Here found
+  when_past found past same answer = nothing found (idle_is ∙ idle_past (is_past world name) (file_for world.root world.tree name) past) same answer
+
+  -- what the file of this path and class does, where the name may be what it defines
+  module _ (path : Path) (class : ClassFile) (idle : idle_file name (keys_of world) ≡ Some (record { path = path; class = class })) (may : may_define names name class ≡ true) where
+    abbrev table : List ClassFile
+    table = opened world.table class
+
+    elsewhere : (x : Text) → is_among names x ≡ true → (x ≡ name → ⊥) → class.name ≡ x → ⊥
+    elsewhere x among other same =
+        let here : (bytes_eq x name || not (is_among names x)) ≡ true = subst (λ n. (bytes_eq n name || not (is_among names n)) ≡ true) same may in
+        let bad : false ≡ true = (λ i. sym (other_text x name other) i || not (sym among i)) ∙ here in
+        cc
+
+    goes : (gone : List Text) (answer : Result ClassFile defined.Ending) → is_past (record world { table = table; gone = gone }) name ≡ true → Turns (is_past world) (is_past (record world { table = table; gone = gone })) name names → answer ≡ answer_in table (Some path) name → Here (record { answer = answer; world = record world { table = table; gone = gone } })
+    goes gone answer past turns is = record {
+      answer = is ∙ sym (ap (λ o. answer_in (table_with o world.table) (path_of o) name) idle);
+      stands = record {
+        built = built;
+        keys = loaded_keys (is_past world) (is_past (record world { table = table; gone = gone })) world.root names name (visible world.root world.tree) (whole world.root names [] (visible world.root world.tree) built) past turns;
+        table = ap (λ o. table_with o world.table) idle;
+      };
+    }
+
+    set_or_gone : (o : Option ClassFile) → class_named name table ≡ o → Here (loaded_as (record world { table = table }) name path o)
+    set_or_gone (Some c) is =
+        goes world.gone (Ok c) (ap (λ o. is_some o || is_among world.gone name) is)
+        (λ x among other. ap (λ o. is_some o || is_among world.gone x) (sym (opened_other world.table class x (elsewhere x among other))))
+        (sym (ap (λ o. option_map_or Ok o (Err (unset name (Some path)))) is))
+    set_or_gone None is =
+        goes (name ∷ world.gone) (Err (not_defined path name)) (or_right (is_some (class_named name table)) _ (ap (λ t. t || is_among world.gone name) (equal_text name)))
+        (λ x among other i. is_some (sym (opened_other world.table class x (elsewhere x among other)) i) || (sym (other_text x name other) i || is_among world.gone x))
+        (sym (ap (λ o. option_map_or Ok o (Err (unset name (Some path)))) is))
+
+  no_answer : class_named name world.table ≡ None → Err (no_constant name) ≡ answer_in world.table None name
+  no_answer unset = sym (ap (λ o. option_map_or Ok o (Err (no_constant name))) unset)
+
+  by_file : class_named name world.table ≡ None → is_among world.gone name ≡ false → (o : Option File) → file_for world.root world.tree name ≡ o → carried.Found names name o → Here (option_map_or (loaded world name) o (absent world name))
+  by_file unset kept None is found = nothing (absent world name) (idle_is ∙ ap (option_and_then (idle_by (is_past world name))) is) refl (no_answer unset)
+  by_file unset kept (Some f) is found =
+      let now : is_past world name ≡ false = λ i. is_some (unset i) || kept i in
+      let idle : idle_file name (keys_of world) ≡ Some (record { path = f.path; class = found.0 }) =
+      idle_is ∙ ap (option_and_then (idle_by (is_past world name))) is ∙ ap (λ b. idle_by b f) now ∙ ap (option_map (λ (class : ClassFile). record { path = f.path; class = class })) found.1 in
+      subst (λ o. Here (option_map_or (loaded_class world name f.path) o (absent world name))) (sym found.1) (set_or_gone f.path found.0 idle found.2 (class_named name (opened world.table found.0)) refl)
+
+  by_gone : class_named name world.table ≡ None → (t : Bool) → is_among world.gone name ≡ t → Here (cond t (absent world name) (option_map_or (loaded world name) (file_for world.root world.tree name) (absent world name)))
+  by_gone unset true gone = when_past (absent world name) (or_right (is_some (class_named name world.table)) (is_among world.gone name) gone) refl (no_answer unset)
+  by_gone unset false kept =
+      by_file unset kept (file_for world.root world.tree name) refl (carried.found world.root names name (visible world.root world.tree) (whole world.root names [] (visible world.root world.tree) built))
+
+  by_table : (o : Option ClassFile) → class_named name world.table ≡ o → Here (option_map_or (λ c. record { answer = Ok c; world = world }) o (missing world name))
+  by_table (Some c) is =
+      when_past (record { answer = Ok c; world = world }) (ap (λ o. is_some o || is_among world.gone name) is) refl (sym (ap (λ o. option_map_or Ok o (Err (no_constant name))) is))
+  by_table None unset = by_gone unset (is_among world.gone name) refl
+
+  pub at_world : Here (resolved world name)
+  at_world = by_table (class_named name world.table) refl
+
+-- a session resolves a name as its world does
+resolved_in : (world : World) (held : Held) (name : Text) → StandsFor world held → Resolves (resolved world name) (after_load name held) (path_of (idle_file name held.keys)) name
+resolved_in world held name stands =
+    let same : held_at world ≡ held = λ i. record { keys = sym stands.keys i; table = sym stands.table i } in
+    subst (λ h. Resolves (resolved world name) (after_load name h) (path_of (idle_file name h.keys)) name) same (at_world world name stands.built)
+
+runs : (world : World) (held : Held) (e : Expression) → StandsFor world held → RunsTo world (after e held) (Some e) (Some (line_of_ending (ending_in (after e held).table (path_of (file_used e held)) e)))
+runs world held (integer n) stands = (refl, stands)
+runs world held (constant name) stands =
+    let r = resolved_in world held name stands in
+    (ap (λ a. Some (line_of_ending (ending_by (λ c. gave (class_value c.name)) a))) (sym r.answer), r.stands)
+runs world held (call name method) stands =
+    let r = resolved_in world held name stands in
+    (ap (λ a. Some (line_of_ending (ending_by (called method) a))) (sym r.answer), r.stands)
+
+-- a run of a session, where its load gave this path, and its end this line
+pub runs_to : (world : World) (held now : Held) (e : Expression) (read : Option Expression) (path : Option Path) (line : Text) → now ≡ after e held → Some e ≡ read → path ≡ path_of (file_used e held) → line ≡ line_of_ending (ending_in now.table path e) → StandsFor world held → RunsTo world now read (Some line)
+runs_to world held now e read path line state reads used is stands =
+    let same : Some (line_of_ending (ending_in (after e held).table (path_of (file_used e held)) e)) ≡ Some line = sym (ap Some is ∙ (λ i. Some (line_of_ending (ending_in (state i).table (used i) e)))) in
+    subst (λ o. RunsTo world now o (Some line)) reads (subst (λ h. RunsTo world h (Some e) (Some line)) (sym state) (subst (λ l. RunsTo world (after e held) (Some e) l) same (runs world held e stands)))

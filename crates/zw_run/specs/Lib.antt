@@ -1,5 +1,7 @@
 pub mod Seen
 pub mod Lines
-pub mod Calls
+pub mod Held
+pub mod Keys
+pub mod Expressions
 pub mod World
 pub mod Session

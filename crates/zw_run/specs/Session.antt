@@ -8,10 +8,11 @@ use Rattle.zw_def_world.specs.Evaluation.{World}
 use Rattle.zw_run.specs.declared.session.SessionFault.{SessionFault}
 use Rattle.zw_run.specs.declared.session.SessionFault.TheVariants.{NotBuilt, Memory}
 
+-- the world at the start: no constant is set, and no key is gone
 abbrev pub world_at : Path → Tree → World
-world_at root tree = record { root = root; tree = tree }
+world_at root tree = record { root = root; tree = tree; table = []; gone = [] }
 
 -- the path is that of the first visible file that is not carried out; want of memory says nothing
-abbrev pub Refuses : SessionFault → World → Type 0
-Refuses (NotBuilt path) world = first_other world.root [] (visible world.root world.tree) ≡ Some path
-Refuses Memory world = Unit {0}
+abbrev pub Refuses : SessionFault → Path → Tree → Type 0
+Refuses (NotBuilt path) root tree = first_other root (visible root tree) ≡ Some path
+Refuses Memory root tree = Unit {0}

@@ -23,7 +23,8 @@ pub struct ClassFile {
     pub methods: Vec<Method>,
 }
 
-fn integer(word: &[u8]) -> Option<i64>
+/// The integer that a word is, if it is a numeral of at most 64 bits with its sign.
+pub fn integer(word: &[u8]) -> Option<i64>
     ensures { result ≡ integer_of word.now }
 {
     if !is_integer(word) {

@@ -1,12 +1,18 @@
 //! Evaluates expressions over the class files of a tree. It stands on the definitions of class files and of evaluation,
-//! and on trees and paths. It promises that a session answers an expression as the map of its tree, asked anew each
-//! time, says; and that it refuses a tree exactly at the first file that is not carried out so far.
+//! and on trees and paths. It promises that a session answers each expression, and changes, as its world does: the map
+//! of its tree, the constants that are set and the keys that are gone; that each file is evaluated at most once; and
+//! that a tree is refused exactly at the first file that is not carried out so far.
 #![tactic(auto)]
 
-mod call;
 mod class_file;
+mod expression;
 mod inflector;
+mod keys;
 mod session;
-mod words;
+mod table;
+pub mod words;
 
 pub use session::{Session, SessionFault};
+
+#[cfg(test)]
+mod tests;

@@ -1,24 +1,20 @@
-// Sessions: the classes of a tree, and the calls that they answer.
-ghost use Rattle.std.specs.Prelude.{◌≡◌, IfOk, IfErr, option_map, string_bytes, map, find};
-ghost use Rattle.std.specs.List.{list_any};
-ghost use Rattle.std.specs.Str.{bytes_eq};
-ghost use Rattle.zw_def.specs.Map.{is_plain, expected_name, is_name};
-ghost use Rattle.zw_def_world.specs.Built.{class_in};
-ghost use Rattle.zw_def_world.specs.Evaluation.{World, call_of, evaluated, line_of_ending, method_named};
-ghost use Rattle.zw_tree.specs.Seen.{file_seen};
-ghost use Rattle.zw_run.specs.Seen.{class_seen, method_seen};
-ghost use Rattle.zw_run.specs.Calls.{call_seen, ending_seen};
-ghost use Rattle.zw_run.specs.World.{StandsFor, class_named, ending_in};
+// Sessions.
+ghost use Rattle.std.specs.Prelude.{◌≡◌, IfOk, IfErr, option_map, string_bytes};
+ghost use Rattle.zw_def_world.specs.Evaluation.{World, expression_of, called};
+ghost use Rattle.zw_run.specs.Expressions.{expression_seen, ending_seen, answer_seen};
+ghost use Rattle.zw_run.specs.Seen.{class_seen};
+ghost use Rattle.zw_run.specs.Held.{idle_file, after_load, file_used, after, answer_in, ending_in};
+ghost use Rattle.zw_run.specs.World.{StandsFor, RunsTo};
 ghost use Rattle.zw_run.specs.Session.{Refuses, world_at};
 
-use crate::call::{self, Call, Ending};
-use crate::class_file::{self, ClassFile};
-use crate::inflector::camelize;
-use crate::words::is_base;
+use crate::class_file::ClassFile;
+use crate::expression::{self, Ending, Expression, Value};
+use crate::keys::{self, Key, has_key, names_of, take_file};
+use crate::table::{class_of, open, value_of};
 use std::alloc::{AllocError, AllocFailed, Global};
 use std::marker::Model;
 use zw_path::Path;
-use zw_tree::{File, Tree};
+use zw_tree::Tree;
 
 /// Why there is no session.
 #[derive(Debug, Drop)]
@@ -50,116 +46,120 @@ impl<T: Drop> From<AllocFailed<T>> for SessionFault {
     }
 }
 
-/// The classes of the visible files of a tree. A clause sees them as the definitions' class files, in path order.
+/// The constants of a tree. A clause sees what a session holds: its keys, and the classes that are set in Object.
 #[derive(Drop)]
 pub struct Session {
-    classes: Vec<ClassFile>,
+    keys: Vec<Key>,
+    table: Vec<ClassFile>,
 }
 
 impl Model for Session {
-    ghost use Rattle.std.specs.Prelude.{List, map};
-    ghost use Rattle.zw_def_world.specs.ClassFile as defined;
+    ghost use Rattle.std.specs.Prelude.{map};
+    ghost use Rattle.zw_run.specs.Held.{Held};
     ghost use Rattle.zw_run.specs.Seen.{class_seen};
+    ghost use Rattle.zw_run.specs.Keys.{key_seen};
 
-    ghost Value = { List defined.ClassFile };
+    ghost Value = { Held };
 
-    ghost view = { λ s. map class_seen s.classes.items };
+    ghost view = { λ s. record { keys = map key_seen s.keys.items; table = map class_seen s.table.items } };
 }
 
-// Whether a file that stands directly below the root has a base name that is carried out so far.
-fn is_plain_file(root: &Path, path: &Path) -> bool
-    ensures { result ≡ is_plain root.now path.now }
+fn ending_of_call<'a>(class: &'a ClassFile, method: &'a str) -> Ending<'a>
+    ensures { ending_seen result ≡ called method.now (class_seen class.now) }
 {
-    path.components().len() == root.components().len() + 1 && is_base(path.base().as_bytes())
-}
-
-// Whether the file is expected to define the constant.
-fn is_expected(alloc: Global, name: &str, root: &Path, file: &File) -> Result<bool, AllocError>
-    ensures { IfOk result (λ yes. yes ≡ is_name name.now (expected_name root.now (file_seen file.now))) }
-{
-    if !is_plain_file(root, &file.path) {
-        return Ok(false);
+    match value_of(class, method) {
+        Some(value) => Ending::Gave(Value::Number(value)),
+        None => Ending::NoMethod(method, &class.name),
     }
-    let expected = camelize(alloc, file.path.base())?;
-    Ok(expected.as_str() == name)
-}
-
-// The class that a file defines, where it is the one that it is expected to define.
-fn class_of(alloc: Global, root: &Path, file: &File) -> Result<Option<ClassFile>, AllocError>
-    ensures { IfOk result (λ class. option_map class_seen class ≡ class_in root.now (file_seen file.now)) }
-{
-    let Some(class) = class_file::read(alloc, &file.text)? else {
-        return Ok(None);
-    };
-    if is_expected(alloc, &class.name, root, file)? {
-        Ok(Some(class))
-    } else {
-        Ok(None)
-    }
-}
-
-fn has_name(classes: &[ClassFile], name: &str) -> bool
-    ensures { result ≡ list_any (bytes_eq name.now) (map (λ c. string_bytes c.name) classes.now) }
-{
-    classes.iter().any(|class| name == class.name.as_str())
-}
-
-fn class_at<'a>(classes: &'a [ClassFile], name: &str) -> Option<&'a ClassFile>
-    ensures { option_map (λ c. class_seen c.now) result ≡ class_named name.now (map class_seen classes.now) }
-{
-    classes.iter().find(|class| class.name.as_str() == name)
-}
-
-fn value_of(class: &ClassFile, name: &str) -> Option<i64>
-    ensures { result ≡ option_map (λ m. m.value) (method_named name.now (class_seen class.now).methods) }
-{
-    class
-        .methods
-        .iter()
-        .rev()
-        .find(|method| method.name.as_str() == name)
-        .map(|method| method.value)
 }
 
 impl Session {
-    /// The session of the files that lie below the root.
+    /// The session of the files that lie below the root, where no constant is set yet.
     pub fn new(alloc: Global, root: &Path, tree: &Tree) -> Result<Session, SessionFault>
         ensures ok { IfOk result (StandsFor (world_at root.now tree.now)) }
-        ensures refused { IfErr result (λ fault. Refuses fault (world_at root.now tree.now)) }
+        ensures refused { IfErr result (λ fault. Refuses fault root.now tree.now) }
     {
-        let mut classes: Vec<ClassFile> = Vec::new(alloc);
+        let names = names_of(alloc, root, tree.files())?;
+        let mut keys: Vec<Key> = Vec::new(alloc);
         for file in tree.files() {
             if !file.path.is_below(root) {
                 continue;
             }
-            match class_of(alloc, root, file)? {
-                Some(class) if !has_name(&classes, &class.name) => classes.push(class)?,
+            match keys::read(alloc, root, &names, file)? {
+                Some(key) if !has_key(&keys, &key.name) => keys.push(key)?,
                 _ => return Err(SessionFault::NotBuilt(file.path.copy(alloc)?)),
             }
         }
-        Ok(Session { classes })
+        let table = Vec::new(alloc);
+        Ok(Session { keys, table })
     }
 
-    fn ending<'a>(&self, call: Call<'a>) -> Ending<'a>
-        ensures { ending_seen result ≡ ending_in (class_named call.entry.class_name.now self.now) (call_seen call.entry) }
+    // Evaluates the file that is expected to define the constant, if it was not evaluated yet, and gives its path.
+    fn load(&mut self, name: &str) -> Result<Option<Path>, AllocError>
+        ensures path { IfOk result (λ path. path ≡ option_map (λ f. f.path) (idle_file name.now self.old.keys)) }
+        ensures state { IfOk result (λ _. self.new ≡ after_load name.now self.old) }
     {
-        let Some(class) = class_at(&self.classes, call.class_name) else {
-            return Ending::NoConstant(call.class_name);
+        let Some(file) = take_file(&mut self.keys, name) else {
+            return Ok(None);
         };
-        match value_of(class, call.method) {
-            Some(value) => Ending::Gave(value),
-            None => Ending::NoMethod(call.method, call.class_name),
+        open(&mut self.table, file.class)?;
+        Ok(Some(file.path))
+    }
+
+    // Evaluates the file that the expression needs.
+    fn prepare(&mut self, expression: Expression<'_>) -> Result<Option<Path>, AllocError>
+        ensures path { IfOk result (λ path. path ≡ option_map (λ f. f.path) (file_used (expression_seen expression.entry) self.old)) }
+        ensures state { IfOk result (λ _. self.new ≡ after (expression_seen expression.entry) self.old) }
+    {
+        match expression {
+            Expression::Integer(_) => Ok(None),
+            Expression::Constant(name) => self.load(name),
+            Expression::Call(name, _) => self.load(name),
         }
     }
 
-    /// The line that an expression answers. None where the expression is not built so far.
-    pub fn run(&self, alloc: Global, expression: &[u8]) -> Result<Option<String>, AllocError>
-        ensures { IfOk result (λ line. (world : World) → StandsFor world self.now → option_map string_bytes line ≡ option_map (λ call. line_of_ending (evaluated world call)) (call_of expression.now)) }
+    // The class of a constant, after the file at the path, if there is one, was evaluated for it.
+    fn constant<'a>(
+        &'a self,
+        path: Option<&'a Path>,
+        name: &'a str,
+    ) -> Result<&'a ClassFile, Ending<'a>>
+        ensures { answer_seen result ≡ answer_in self.now.table (option_map (λ p. p.now) path.entry) name.now }
     {
-        let Some(call) = call::read(expression) else {
+        match (class_of(&self.table, name), path) {
+            (Some(class), _) => Ok(class),
+            (None, Some(path)) => Err(Ending::NotDefined(path, name)),
+            (None, None) => Err(Ending::NoConstant(name)),
+        }
+    }
+
+    // How the expression ends, after the file at the path, if there is one, was evaluated for it.
+    fn ending<'a>(&'a self, path: Option<&'a Path>, expression: Expression<'a>) -> Ending<'a>
+        ensures { ending_seen result ≡ ending_in self.now.table (option_map (λ p. p.now) path.entry) (expression_seen expression.entry) }
+    {
+        match expression {
+            Expression::Integer(number) => Ending::Gave(Value::Number(number)),
+            Expression::Constant(name) => match self.constant(path, name) {
+                Ok(class) => Ending::Gave(Value::Class(&class.name)),
+                Err(ending) => ending,
+            },
+            Expression::Call(name, method) => match self.constant(path, name) {
+                Ok(class) => ending_of_call(class, method),
+                Err(ending) => ending,
+            },
+        }
+    }
+
+    /// Evaluates an expression, and gives the line that it answers. None where the expression is not built so far. After
+    /// an error the session is spent.
+    pub fn run(&mut self, alloc: Global, expression: &[u8]) -> Result<Option<String>, AllocError>
+        ensures { IfOk result (λ line. (world : World) → StandsFor world self.old → RunsTo world self.new (expression_of expression.now) (option_map string_bytes line)) }
+    {
+        let Some(expression) = expression::read(expression) else {
             return Ok(None);
         };
-        let line = call::line_of(alloc, self.ending(call))?;
+        let path = self.prepare(expression)?;
+        let line = expression::line_of(alloc, self.ending(path.as_ref(), expression))?;
         Ok(Some(line))
     }
 }

@@ -3,12 +3,17 @@ ghost use Rattle.std.specs.Prelude.{◌≡◌, ◌&&◌, ◌==◌, not};
 ghost use Rattle.std.specs.Str.{bytes_eq};
 ghost use Rattle.std.specs.List.{list_all, list_any};
 ghost use Rattle.zw_def_world.specs.ClassFile.{is_blank, is_class_byte, is_class_word, is_class_name, is_method_byte, is_method_word, is_method_name, is_numeral, unindented};
+ghost use Rattle.zw_def_world.specs.Built.{is_core};
 ghost use Rattle.zw_def.specs.Map.{is_base_byte, is_plain_base};
 ghost use Rattle.zw_def.specs.Text.{is_digit, pieces};
 
 // Core classes and modules, and words in capitals that are no constants.
 const RESERVED_CLASS_NAMES: &str =
     "ArgumentError Array BEGIN Class END Exception FalseClass FrozenError IndexError Integer Kernel LoadError Module NameError NilClass NoMethodError Object RangeError RuntimeError ScriptError StandardError String Symbol SyntaxError TrueClass TypeError ZeroDivisionError Zeitwerk";
+
+// Core classes and modules.
+const CORE_NAMES: &str =
+    "ArgumentError Array Class Exception FalseClass FrozenError IndexError Integer Kernel LoadError Module NameError NilClass NoMethodError Object RangeError RuntimeError ScriptError StandardError String Symbol SyntaxError TrueClass TypeError ZeroDivisionError Zeitwerk";
 
 // Keywords, words outside the profile, and methods that every class has.
 const RESERVED_METHOD_NAMES: &str =
@@ -62,8 +67,8 @@ fn is_method_form(word: &[u8]) -> bool
     }
 }
 
-// Whether a word is one of the words of a text that single spaces part.
-fn is_among(word: &[u8], words: &str) -> bool
+/// Whether a word is one of the words of a text that single spaces part.
+pub fn is_among(word: &[u8], words: &str) -> bool
     ensures { result ≡ list_any (bytes_eq word.now) (pieces 32 words.now) }
 {
     words
@@ -86,6 +91,14 @@ pub fn is_method(word: &[u8]) -> bool
     ensures { result ≡ is_method_name word.now }
 {
     is_method_form(word) && !is_among(word, RESERVED_METHOD_NAMES)
+}
+
+/// Whether a word is the name of a core class or module.
+#[tactic(auto, unfolding(zw_def_world::specs::Built::core_names))]
+pub fn is_core(word: &[u8]) -> bool
+    ensures { result ≡ is_core word.now }
+{
+    is_among(word, CORE_NAMES)
 }
 
 fn is_many_digits(first: u8, rest: &[u8]) -> bool

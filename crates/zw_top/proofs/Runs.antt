@@ -2,11 +2,11 @@
 use Rattle.std.proofs.Common.{◌≡◌, ◌++◌, ℕ, List, [], ◌∷◌, Option, Some, None, Result, Ok, Err, IfSome, codes, refl, sym, ap, subst, ◌∙◌, rules}
 use Rattle.zw_def.specs.Text.{Text}
 use Rattle.zw_def.specs.Folder.{Listing}
-use Rattle.zw_def_world.specs.ClassFile.{ClassFile}
 use Rattle.zw_def_world.specs.Evaluation.{World}
 use Rattle.zw_def_session.specs.Start as start
 use Rattle.zw_def_session.specs.Output.{Output, output, output_from, refused, text_of_groups}
 use Rattle.zw_io.specs.Told.{Rose, Appends, AppendsFront}
+use Rattle.zw_run.specs.Held.{Held}
 use Rattle.zw_run.specs.World.{StandsFor}
 use Rattle.zw_top.specs.Refusals.{refusal_seen, Stops}
 use Rattle.zw_top.specs.Replies.{WritesAll, WritesFront, StopsAfter, Serves, CountsServed}
@@ -53,7 +53,7 @@ serves_by Usage world bytes later first now serves = absurd serves
 serves_by Config world bytes later first now serves = absurd serves
 serves_by FolderFault world bytes later first now serves = absurd serves
 
-pub started_writes : {K : Type 0} (taken : K → Option Text) (old begun now final : K) (status : Status) (words : List Text) (told : Option Listing) (left later : Option Text) (session : List ClassFile)
+pub started_writes : {K : Type 0} (taken : K → Option Text) (old begun now final : K) (status : Status) (words : List Text) (told : Option Listing) (left later : Option Text) (session : Held)
     → begun ≡ old → final ≡ now → IfSome told (λ l. GivesSession (Ok session) (start.started words l))
     → ((world : World) → StandsFor world session → IfSome left (λ bytes. Serves status world bytes later (taken begun) (taken now)))
     → IfSome told (λ l. IfSome left (λ bytes. Writes status words l bytes later (taken old) (taken final)))

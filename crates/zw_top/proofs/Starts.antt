@@ -92,12 +92,15 @@ listed_long (Some all) (Some n) texts so many =
 
 -- ---- one listed path
 
+pub is_utf8-false : (bytes : Text) → ¬ (IsUtf8 bytes) → is_utf8 bytes ≡ false
+is_utf8-false bytes other = elim (cases_Bool (is_utf8 bytes)) [
+  | inl valid ↦ absurd (other (IsUtf8-from_is_utf8 bytes valid))
+  | inr no_text ↦ no_text
+]
+
 pub with_other : (told : Option Listing) (fixed : Path) (tree : Tree) (bytes : Text) → ¬ (IsUtf8 bytes) → IfSome told (λ l. with_listed fixed l.files tree bytes ≡ Ok tree)
 with_other None fixed tree bytes other = tt
-with_other (Some l) fixed tree bytes other = elim (cases_Bool (is_utf8 bytes)) [
-  | inl valid ↦ absurd (other (IsUtf8-from_is_utf8 bytes valid))
-  | inr no_text ↦ ap (λ t. cond t (with_text fixed l.files tree bytes) (Ok tree)) no_text
-]
+with_other (Some l) fixed tree bytes other = ap (λ t. cond t (with_text fixed l.files tree bytes) (Ok tree)) (is_utf8-false bytes other)
 
 pub with_valid : (told : Option Listing) (fixed : Path) (old tree : Tree) (bytes : Text) (result : Result (Unit {0}) Stop) → IsUtf8 bytes → IfSome told (λ l. GivesTree result tree (with_text fixed l.files old bytes)) → IfSome told (λ l. GivesTree result tree (with_listed fixed l.files old bytes))
 with_valid None fixed old tree bytes result valid gives = tt

@@ -1,33 +1,49 @@
 -- What the answers to lines write, and how a stream ends.
 use Rattle.std.specs.Prelude.{◌≡◌, ◌≢◌, ℕ, Bool, List, [], ◌∷◌, ◌++◌, Option, Some, None, Result, Ok, Err, if◌then◌else◌, codes, String, string_bytes}
 use Rattle.std.specs.declared.alloc.Global.{Global}
-use Rattle.std.specs.List.{list_all}
-use Rattle.std.specs.Option.{option_map_or}
-use Rattle.std.specs.Str.Lines.{strip_carriage_return}
 use Rattle.zw_def.specs.Text.{Text}
 use Rattle.zw_def.specs.Line.{whole_lines}
-use Rattle.zw_def_world.specs.ClassFile.{is_blank}
 use Rattle.zw_def_world.specs.Evaluation.{World}
 use Rattle.zw_def_session.specs.Start as start
-use Rattle.zw_def_session.specs.Output.{Group, Output, text_of_groups, answer_to_command, not_built, groups_of, served}
+use Rattle.zw_def_session.specs.Command.{Command, nothing, too_long, is_comment, command_of_text}
+use Rattle.zw_def_session.specs.Command as command
+use Rattle.zw_def_session.specs.Output.{Group, Output, Answer, passed, ended, answered, text_of_groups, groups_of, served}
+use Rattle.zw_run.specs.Held.{Held}
+use Rattle.zw_run.specs.World.{StandsFor}
 use Rattle.zw_io.specs.Told.{Rose, Appends, AppendsFront}
 use Rattle.zw_io.specs.declared.lines.LineEnd.{LineEnd}
 use Rattle.zw_io.specs.declared.lines.LineEnd.TheVariants.{Line, TooLong, End}
 use Rattle.zw_io.specs.declared.lines.LinesFault.{LinesFault}
 use Rattle.zw_io.specs.declared.lines.LinesFault.TheVariants as lines
+use Rattle.zw_top.specs.declared.stream.Answer as answer
+use Rattle.zw_top.specs.declared.stream.Answer.TheVariants as answers
 use Rattle.zw_top.specs.declared.status.Status.{Status}
 use Rattle.zw_top.specs.declared.status.Status.TheVariants.{Done, Usage, Config, ReadFault, WriteFault, FolderFault, Memory, Limit}
 
 -- ---- one line
 
-abbrev pub line_groups : Option (String Global) → List Group
-line_groups answer = option_map_or (λ line. (string_bytes line ∷ []) ∷ []) answer []
+-- what a line asks for, by how it ends: it is whole here, or the front of one that is too long
+abbrev pub command_for : LineEnd → Text → Command
+command_for Line line = if is_comment line then nothing else command_of_text line
+command_for TooLong line = if is_comment line then nothing else command.refused too_long
+command_for End line = nothing
 
--- the group that a line answers, by how it ends: it is whole here, or too long
-abbrev pub group_for : World → LineEnd → Text → List Group
-group_for world Line line = if list_all is_blank (strip_carriage_return line) then [] else (answer_to_command world (strip_carriage_return line) ∷ []) ∷ []
-group_for world TooLong line = (not_built ∷ []) ∷ []
-group_for world End line = []
+-- the group of an answer alone, and the world that it leaves
+abbrev pub groups_alone : Answer → List Group
+groups_alone passed = []
+groups_alone ended = []
+groups_alone (answered line next) = (line ∷ []) ∷ []
+
+abbrev pub next_of : World → Answer → World
+next_of world passed = world
+next_of world ended = world
+next_of world (answered line next) = next
+
+-- the code's answer is the one that is defined, and what is held stands for the world that it leaves
+abbrev pub AnswersTo : World → Held → answer.Answer → Answer → Type 0
+AnswersTo world held answers.Passed defined = (defined ≡ passed) × StandsFor world held
+AnswersTo world held answers.Ended defined = defined ≡ ended
+AnswersTo world held (answers.Answered line) defined = (next : World) × (defined ≡ answered (string_bytes line) next) × StandsFor next held
 
 abbrev pub PutsLine : Result (Unit {0}) Status → Text → Option Text → Option Text → Type 0
 PutsLine (Ok u) line first now = Appends first now (line ++ codes "\n")
@@ -41,11 +57,20 @@ CountsPut (Err WriteFault) before after = Rose before after
 CountsPut (Err Memory) before after = after ≡ before
 CountsPut (Err other) before after = ⊥
 
-abbrev pub Replies : Result (Unit {0}) Status → List Group → Option Text → Option Text → Type 0
-Replies (Ok u) groups first now = Appends first now (text_of_groups groups)
-Replies (Err WriteFault) groups first now = AppendsFront first now (text_of_groups groups)
-Replies (Err Memory) groups first now = now ≡ first
-Replies (Err other) groups first now = ⊥
+-- the answer is written; where it is the end, the session is done
+abbrev pub Replies : Result (Unit {0}) Status → World → Held → Answer → Option Text → Option Text → Type 0
+Replies (Ok u) world held answer first now = (answer ≢ ended) × StandsFor (next_of world answer) held × Appends first now (text_of_groups (groups_alone answer))
+Replies (Err Done) world held answer first now = (answer ≡ ended) × (now ≡ first)
+Replies (Err WriteFault) world held answer first now = (answer ≢ ended) × AppendsFront first now (text_of_groups (groups_alone answer))
+Replies (Err Memory) world held answer first now = now ≡ first
+Replies (Err other) world held answer first now = ⊥
+
+abbrev pub CountsReply : Result (Unit {0}) Status → ℕ → ℕ → Type 0
+CountsReply (Ok u) before after = after ≡ before
+CountsReply (Err WriteFault) before after = Rose before after
+CountsReply (Err Memory) before after = after ≡ before
+CountsReply (Err Done) before after = after ≡ before
+CountsReply (Err other) before after = ⊥
 
 -- ---- the end of a stream
 

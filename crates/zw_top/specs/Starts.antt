@@ -6,9 +6,9 @@ use Rattle.zw_def.specs.Text.{Text}
 use Rattle.zw_def.specs.Path.{Path}
 use Rattle.zw_def.specs.Tree.{Tree}
 use Rattle.zw_def.specs.Folder.{Listing, bytes_at, unlisted}
-use Rattle.zw_def_world.specs.ClassFile.{ClassFile}
 use Rattle.zw_def_world.specs.Evaluation.{World}
 use Rattle.zw_def_session.specs.Start.{Start, most_file_bytes}
+use Rattle.zw_run.specs.Held.{Held}
 use Rattle.zw_run.specs.World.{StandsFor}
 use Rattle.zw_top.specs.Refusals.{Stops}
 use Rattle.zw_top.specs.declared.refusal.Stop.{Stop}
@@ -60,6 +60,6 @@ GivesTree (Ok u) tree start = start ≡ Ok tree
 GivesTree (Err stop) tree start = Stops stop start
 
 -- the session stands for the world that is defined
-abbrev pub GivesSession : Result (List ClassFile) Stop → Start World → Type 0
+abbrev pub GivesSession : Result Held Stop → Start World → Type 0
 GivesSession (Ok session) start = (world : World) × (start ≡ Ok world) × StandsFor world session
 GivesSession (Err stop) start = Stops stop start

@@ -4,6 +4,7 @@
 //! a call of that object failed.
 #![tactic(auto)]
 
+mod command;
 mod limits;
 mod refusal;
 mod start;

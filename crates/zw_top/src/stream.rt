@@ -1,14 +1,15 @@
 // The command stream.
-ghost use Rattle.std.specs.Prelude.{◌≡◌, ◌≢◌, MatchBool, IfOk, IfSome, codes, string_bytes};
-ghost use Rattle.std.specs.List.{list_all};
-ghost use Rattle.std.specs.Str.Lines.{strip_carriage_return};
-ghost use Rattle.zw_def_world.specs.ClassFile.{is_blank};
+ghost use Rattle.std.specs.Prelude.{◌≡◌, ◌≢◌, IfOk, IfSome, MatchBool, string_bytes};
 ghost use Rattle.zw_def_world.specs.Evaluation.{World};
-ghost use Rattle.zw_def_session.specs.Output.{answer_to_run, answer_to_command, not_built};
+ghost use Rattle.zw_def_session.specs.Command as defined;
+ghost use Rattle.zw_def_session.specs.Output.{answer_to, answer_to_run};
+ghost use Rattle.zw_run.specs.Held.{Held};
 ghost use Rattle.zw_run.specs.World.{StandsFor};
-ghost use Rattle.zw_top.specs.Replies.{line_groups, group_for, PutsLine, CountsPut, Replies, CutsShort, CountsCut, Serves, CountsServed};
+ghost use Rattle.zw_top.specs.Commands.{command_seen, reason_seen};
+ghost use Rattle.zw_top.specs.Replies.{AnswersTo, PutsLine, CountsPut, Replies, CountsReply, CutsShort, CountsCut, Serves, CountsServed};
 
 use crate::Status;
+use crate::command::{self, Command, Reason};
 use std::alloc::{AllocError, Global};
 use zw_io::{LineEnd, Lines, LinesFault, Out, Sink, Source};
 use zw_run::Session;
@@ -31,84 +32,65 @@ pub fn put_line<K: Sink>(out: &mut Out<K>, line: String) -> Result<(), Status>
 
 // ---- one line
 
-fn no_answer(alloc: Global) -> Result<String, AllocError>
-    ensures { IfOk result (λ line. string_bytes line ≡ not_built) }
-{
-    String::from_str(alloc, "? not built")
+/// What a command answers.
+#[derive(Debug, Drop)]
+pub enum Answer {
+    /// Nothing is printed, and the session goes on.
+    Passed,
+    /// The session ends.
+    Ended,
+    /// A line is printed.
+    Answered(String),
 }
 
-fn answer_to(alloc: Global, session: &Session, text: &[u8]) -> Result<String, AllocError>
-    ensures { IfOk result (λ line. (world : World) → StandsFor world session.now → string_bytes line ≡ answer_to_run world text.now) }
+fn refusal_of(alloc: Global, reason: Reason) -> Result<Answer, AllocError>
+    ensures { IfOk result (λ answer. (world : World) (held : Held) → StandsFor world held → AnswersTo world held answer (answer_to world (defined.refused (reason_seen reason)))) }
 {
-    match session.run(alloc, text)? {
-        Some(line) => Ok(line),
-        None => no_answer(alloc),
+    Ok(Answer::Answered(command::line_of(alloc, reason)?))
+}
+
+// What the command `run` answers.
+fn evaluate(alloc: Global, session: &mut Session, text: &[u8]) -> Result<Answer, AllocError>
+    ensures { IfOk result (λ answer. (world : World) → StandsFor world session.old → AnswersTo world session.new answer (answer_to_run world text.now)) }
+{
+    match session.run(alloc, text) {
+        Err(error) => Err(error),
+        Ok(Some(line)) => Ok(Answer::Answered(line)),
+        Ok(None) => refusal_of(alloc, Reason::NotBuilt),
     }
 }
 
-fn answer_line(alloc: Global, session: &Session, line: &[u8]) -> Result<String, AllocError>
-    ensures { IfOk result (λ answer. (world : World) → StandsFor world session.now → string_bytes answer ≡ answer_to_command world line.now) }
-{
-    match line.strip_prefix(b"run ".as_slice()) {
-        Some(text) => answer_to(alloc, session, text),
-        None => no_answer(alloc),
-    }
-}
-
-// The line without a CR at its end.
-fn without_return(line: &[u8]) -> &[u8]
-    ensures { result.now ≡ strip_carriage_return line.now }
-{
-    if !line.is_empty() && line[line.len() - 1] == b'\r' {
-        return &line[..line.len() - 1];
-    }
-    line
-}
-
-fn is_blank_line(line: &[u8]) -> bool
-    ensures { result ≡ list_all is_blank line.now }
-{
-    line.iter().all(|b| *b == b' ' || *b == b'\t')
-}
-
-// What a line answers, where it is not passed over.
-fn answer_to_line(
+fn answer_for(
     alloc: Global,
-    session: &Session,
-    end: LineEnd,
-    line: &[u8],
-) -> Result<Option<String>, AllocError>
-    ensures { IfOk result (λ answer. (world : World) → StandsFor world session.now → line_groups answer ≡ group_for world end line.now) }
+    session: &mut Session,
+    command: Command<'_>,
+) -> Result<Answer, AllocError>
+    ensures { IfOk result (λ answer. (world : World) → StandsFor world session.old → AnswersTo world session.new answer (answer_to world (command_seen command.entry))) }
 {
-    match end {
-        LineEnd::End => Ok(None),
-        LineEnd::TooLong => Ok(Some(no_answer(alloc)?)),
-        LineEnd::Line => {
-            let line = without_return(line);
-            if is_blank_line(line) {
-                return Ok(None);
-            }
-            Ok(Some(answer_line(alloc, session, line)?))
-        }
+    match command {
+        Command::Nothing => Ok(Answer::Passed),
+        Command::End => Ok(Answer::Ended),
+        Command::Run(text) => evaluate(alloc, session, text),
+        Command::Refused(reason) => refusal_of(alloc, reason),
     }
 }
 
-// Writes the answer to one line. The status of an `Err` ends the session.
+// Writes the answer to a command. The status of an `Err` ends the session.
 fn reply<K: Sink>(
     alloc: Global,
-    session: &Session,
+    session: &mut Session,
     out: &mut Out<K>,
-    end: LineEnd,
-    line: &[u8],
+    command: Command<'_>,
 ) -> Result<(), Status>
     ensures same_sink { out.new.sink.ghost_name ≡ out.old.sink.ghost_name }
-    ensures replies { (world : World) → StandsFor world session.now → Replies result (group_for world end line.now) (K.taken out.old.sink.now) (K.taken out.new.sink.now) }
-    ensures counts { CountsPut result (K.faults out.old.sink.now) (K.faults out.new.sink.now) }
+    ensures replies { (world : World) → StandsFor world session.old → Replies result world session.new (answer_to world (command_seen command.entry)) (K.taken out.old.sink.now) (K.taken out.new.sink.now) }
+    ensures counts { CountsReply result (K.faults out.old.sink.now) (K.faults out.new.sink.now) }
 {
-    match answer_to_line(alloc, session, end, line) {
+    match answer_for(alloc, session, command) {
         Err(_) => Err(Status::Memory),
-        Ok(None) => Ok(()),
-        Ok(Some(answer)) => put_line(out, answer),
+        Ok(Answer::Passed) => Ok(()),
+        Ok(Answer::Ended) => Err(Status::Done),
+        Ok(Answer::Answered(line)) => put_line(out, line),
     }
 }
 
@@ -145,15 +127,16 @@ fn cut_short<K: Sink>(alloc: Global, out: &mut Out<K>, fault: LinesFault) -> Sta
 /// Answers the lines of the stream.
 pub fn serve<S: Source, K: Sink>(
     alloc: Global,
-    session: &Session,
+    session: Session,
     source: &mut S,
     out: &mut Out<K>,
 ) -> Status
     ensures same_sink { out.new.sink.ghost_name ≡ out.old.sink.ghost_name }
-    ensures serves { (world : World) → StandsFor world session.now → IfSome (S.left source.old) (λ bytes.
+    ensures serves { (world : World) → StandsFor world session → IfSome (S.left source.old) (λ bytes.
         Serves result world bytes (S.left source.new) (K.taken out.old.sink.now) (K.taken out.new.sink.now)) }
     ensures counts { CountsServed result (S.faults source.old) (S.faults source.new) (K.faults out.old.sink.now) (K.faults out.new.sink.now) }
 {
+    let mut current = session;
     let mut lines = Lines::new(source);
     let mut line = Vec::new(alloc);
     'stream: loop {
@@ -163,7 +146,7 @@ pub fn serve<S: Source, K: Sink>(
                 if is_last(end) {
                     return Status::Done;
                 }
-                match reply(alloc, session, out, end, &line) {
+                match reply(alloc, &mut current, out, command::read(end, &line)) {
                     Ok(()) => {}
                     Err(status) => return status,
                 }

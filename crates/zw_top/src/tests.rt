@@ -159,29 +159,50 @@ fn read_faults(rt: HostRuntime) -> Result<(), Fail> {
     for row in [row, later] {
         try_row(&rt, rt.alloc(), &row)?;
     }
-    Ok(())
+    // The stream of two lines in pieces of six bytes, of which the second fails.
+    let pieces = Row {
+        stream: "run 1\nrun 2\n",
+        piece: 6,
+        source_fails: 2,
+        output: "= 1\n",
+        status: Status::ReadFault,
+        ..PLAIN
+    };
+    try_row(&rt, rt.alloc(), &pieces)?;
+    let front = Row {
+        stream: "run 1",
+        piece: 2,
+        sink_fails: 2,
+        output: "= ",
+        status: Status::WriteFault,
+        ..PLAIN
+    };
+    try_row(&rt, rt.alloc(), &front)
 }
 
 #[test]
 fn answers(rt: HostRuntime) -> Result<(), Fail> {
     let rows = [
         (
-            "run User.age\n",
-            "! NoMethodError: undefined method 'age' for class User\n",
+            "run User.size\nrun 7\nrun User\nrun User.age\nrun Car\nmap\n",
+            "= 40\n= 7\n= User\n! NoMethodError: undefined method 'age' for class User\n! NameError: uninitialized constant Car\n? not built\n",
         ),
-        (
-            "run Car.size\n",
-            "! NameError: uninitialized constant Car\n",
-        ),
+        ("run 1\nend\nrun 2\n", "= 1\n"),
+        ("end \nrun 2\n", ""),
+        ("end 1\nrun 2\n", "? bad argument\n= 2\n"),
         ("\n \t\n\r\nrun User.size\r\n", "= 40\n"),
-        ("run User.size", "= 40\n"),
+        ("# run 1\nrun User.size", "= 40\n"),
         (
-            "frob\nrun User.name\nrun\n# x\n",
-            "? not built\n? not built\n? not built\n? not built\n",
+            "frob\nrun User.name\nrun\n Run\n",
+            "? unknown command\n? not built\n? not built\n? unknown command\n",
         ),
         (
             "run  User.size\nrun User.size \n",
             "? not built\n? not built\n",
+        ),
+        (
+            "put m/a.rb 1\nrun 1\nreload\n",
+            "? not built\n= 1\n? not built\n",
         ),
     ];
     for (stream, output) in rows {
@@ -195,6 +216,41 @@ fn answers(rt: HostRuntime) -> Result<(), Fail> {
             },
         )?;
     }
+    Ok(())
+}
+
+// A file that defines another class: its use fails once, and then its constant is absent.
+#[test]
+fn other_class(rt: HostRuntime) -> Result<(), Fail> {
+    let row = Row {
+        path: "m/car.rb",
+        text: "class Vehicle\ndef self.wheels\n4\nend\nend\n",
+        stream: "run Car\nrun Car\nrun Vehicle.wheels\nrun Vehicle\n",
+        output: "! Zeitwerk::NameError: expected file m/car.rb to define constant Car, but didn't\n! NameError: uninitialized constant Car\n= 4\n= Vehicle\n",
+        ..PLAIN
+    };
+    try_row(&rt, rt.alloc(), &row)
+}
+
+// Lines that are too long or not UTF-8.
+#[test]
+fn bad_lines(rt: HostRuntime) -> Result<(), Fail> {
+    let alloc = rt.alloc();
+    let mut bytes = vec![in alloc; b'x'; 1_048_577]?;
+    bytes.extend_from_slice(b"\n#".as_slice())?;
+    bytes.extend_from_slice(&vec![in alloc; b'x'; 1_048_577]?)?;
+    bytes.extend_from_slice(b"\n\xff\nrun 1\n".as_slice())?;
+    bytes.extend_from_slice(&vec![in alloc; b' '; 1_048_576]?)?;
+    bytes.extend_from_slice(b"\n".as_slice())?;
+    bytes.extend_from_slice(&vec![in alloc; b' '; 1_048_577]?)?;
+    let words = words_of(alloc, PLAIN.words)?;
+    let mut folder = folder_of(alloc, &PLAIN)?;
+    let mut source = MemSource::new(bytes, 4096, Vec::new(alloc));
+    let mut sink = MemSink::new(alloc, 4096, Vec::new(alloc));
+    let status = run(alloc, &words, &mut folder, &mut source, &mut sink);
+    assert!(rt; status == Status::Done);
+    let output = "? line too long\n? not UTF-8\n= 1\n? line too long\n";
+    assert!(rt; sink.taken() == output.as_bytes());
     Ok(())
 }
 
@@ -234,7 +290,6 @@ fn refusals(rt: HostRuntime) -> Result<(), Fail> {
             "class String\nend\n",
             "not built: m/string.rb\n",
         ),
-        ("m/car.rb", USER, "not built: m/car.rb\n"),
         ("m/user.rb", "class User\nend", "not built: m/user.rb\n"),
         (
             "m/user.rb",

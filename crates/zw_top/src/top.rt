@@ -71,7 +71,7 @@ pub fn run<F: Folder, S: Source, K: Sink>(
 {
     let mut out = Out::new(sink);
     match start(alloc, words, folder) {
-        Ok(session) => serve(alloc, &session, source, &mut out),
+        Ok(session) => serve(alloc, session, source, &mut out),
         Err(stop) => refuse(alloc, &mut out, stop),
     }
 }

@@ -2,7 +2,7 @@ use Rattle.std.proofs.Common.{◌≡◌, None}
 use Rattle.zw_def_world.specs.Evaluation.{World}
 use Rattle.zw_io.specs.State.{bytes_left}
 use Rattle.zw_run.specs.World.{StandsFor}
-use Rattle.zw_top.proofs.Streams.{GoesOn}
+use Rattle.zw_top.proofs.Streams.{GoesIfTold}
 use Rattle.zw_top.proofs.stream.serve.Given as goal
 
 abbrev pub invariant-stream : goal.invariant-stream
@@ -12,7 +12,7 @@ invariant-stream g l = record {
   fresh : l.lines.refused ≡ None;
   source_counts : g.S.Source.faults l.lines.source.now ≡ g.S.Source.faults l.fn.source;
   sink_counts : g.K.Sink.faults l.out.sink.now ≡ g.K.Sink.faults l.fn.out.sink.now;
-  told : (world : World) → StandsFor world l.session → GoesOn world (g.S.Source.left l.fn.source) (bytes_left g.S.Source.left l.lines) (g.K.Sink.taken l.fn.out.sink.now) (g.K.Sink.taken l.out.sink.now) l.lines.room l.lines.is_ended;
+  told : (world : World) → StandsFor world l.fn.session → GoesIfTold world l.current (g.S.Source.left l.fn.source) (bytes_left g.S.Source.left l.lines) (g.K.Sink.taken l.fn.out.sink.now) (g.K.Sink.taken l.out.sink.now) l.lines.room l.lines.is_ended;
 }
 
 abbrev pub decreases-stream : goal.decreases-stream

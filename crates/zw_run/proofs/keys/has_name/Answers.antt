@@ -1,0 +1,11 @@
+use Rattle.std.proofs.Common.{string_bytes, rules, tests, ◌∙◌, sym}
+use Rattle.std.specs.Str.{bytes_eq}
+use Rattle.std.proofs.lemmas.Iterator.{YieldsList-from_slice}
+use Rattle.std.proofs.lemmas.Iterator.Search.{any_from_yields_List}
+use Rattle.zw_tree.proofs.Mapped.{list_any-map}
+use Rattle.zw_run.proofs.keys.has_name.Goals as goal
+
+pub returns : goal.returns
+returns c =
+    any_from_yields_List (λ k. bytes_eq c.args.name.now (string_bytes k)) _ _ c.any.result c.any.ensures.ran (YieldsList-from_slice c.args.names.now c.iter.ensures.rest) (λ x b q k. search (rules, tests))
+    ∙ sym (list_any-map string_bytes (bytes_eq c.args.name.now) c.args.names.now)
