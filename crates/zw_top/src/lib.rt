@@ -16,4 +16,6 @@ pub use status::Status;
 pub use top::run;
 
 #[cfg(test)]
+mod large;
+#[cfg(test)]
 mod tests;

@@ -1,4 +1,5 @@
 // Whole sessions over objects in memory.
+use crate::large::{Comment, FULL, Large};
 use crate::{Status, run};
 use std::alloc::Global;
 use std::process::Abort;
@@ -306,6 +307,88 @@ fn refusals(rt: HostRuntime) -> Result<(), Fail> {
             ..PLAIN
         };
         try_row(&rt, rt.alloc(), &row)?;
+    }
+    Ok(())
+}
+
+// Where no allocation fails, all is written. Where one is made to fail, want of memory or the fake sink's own fault is
+// told, and what was written is a front.
+#[test]
+fn memory(rt: HostRuntime) -> Result<(), Fail> {
+    let alloc = rt.alloc();
+    let words = words_of(alloc, PLAIN.words)?;
+    let mut folder = folder_of(alloc, &PLAIN)?;
+    let bytes = b"run User.size\nrun User\nrun 7\nrun Car\n".to_vec(alloc)?;
+    let mut source = MemSource::new(bytes, 6, Vec::new(alloc));
+    let mut sink = MemSink::new(alloc, 2, Vec::new(alloc));
+    let status = run(alloc, &words, &mut folder, &mut source, &mut sink);
+    let output = b"= 40\n= User\n= 7\n! NameError: uninitialized constant Car\n".as_slice();
+    if status == Status::Done {
+        assert!(rt; sink.taken() == output);
+    } else {
+        assert!(rt; status == Status::Memory || status == Status::WriteFault);
+        assert!(rt; output.starts_with(sink.taken()));
+    }
+    Ok(())
+}
+
+fn try_large(
+    rt: &impl Abort,
+    alloc: Global,
+    mut folder: Large,
+    stream: usize,
+    output: &str,
+) -> Result<(), Fail> {
+    let words = words_of(alloc, PLAIN.words)?;
+    let mut source = Comment { left: stream };
+    let mut sink = MemSink::new(alloc, 4096, Vec::new(alloc));
+    let status = run(alloc, &words, &mut folder, &mut source, &mut sink);
+    let wanted = if output.is_empty() {
+        Status::Done
+    } else {
+        Status::Limit
+    };
+    assert!(rt; status == wanted, "status at {output:?}");
+    assert!(rt; sink.taken() == output.as_bytes(), "output at {output:?}");
+    Ok(())
+}
+
+fn large(others: usize, classes: usize, first: usize) -> Large {
+    Large {
+        others,
+        classes,
+        first,
+    }
+}
+
+// A stream at its limit, and one byte past it.
+#[test]
+fn stream_limit(rt: HostRuntime) -> Result<(), Fail> {
+    let limit: usize = 1 << 30;
+    try_large(&rt, rt.alloc(), large(0, 0, 0), limit, "")?;
+    try_large(
+        &rt,
+        rt.alloc(),
+        large(0, 0, 0),
+        limit + 1,
+        "limit: stream\n",
+    )
+}
+
+// A folder at each of its limits, and one past it. The listing's comes before those of the tree.
+#[test]
+fn folder_limits(rt: HostRuntime) -> Result<(), Fail> {
+    let folders = [
+        (1_000_000, 0, 0, ""),
+        (1_000_001, 0, 0, "limit: listing\n"),
+        (1_000_000, 1, FULL + 1, "limit: listing\n"),
+        (0, 1, FULL, ""),
+        (0, 1, FULL + 1, "limit: file m/a000.rb\n"),
+        (0, 256, FULL, ""),
+        (0, 257, 1, "limit: tree\n"),
+    ];
+    for (others, classes, first, output) in folders {
+        try_large(&rt, rt.alloc(), large(others, classes, first), 0, output)?;
     }
     Ok(())
 }
