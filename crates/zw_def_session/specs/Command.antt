@@ -1,6 +1,6 @@
 -- Command lines: what a line of the stream asks for. A line ends with LF or with the stream, and one CR before it is
 -- dropped.
-use Rattle.std.specs.Prelude.{ℕ, Bool, true, false, List, [], ◌∷◌, Option, Some, None, ◌&&◌, ◌||◌, ◌==◌, not, if◌then◌else◌, codes, nat_lt, length, take, drop, ◌+◌}
+use Rattle.std.specs.Prelude.{ℕ, Bool, false, [], ◌∷◌, ◌==◌, if◌then◌else◌, codes, nat_lt, length, take, drop, ◌+◌}
 use Rattle.std.specs.List.{list_all, list_any, position_or_len}
 use Rattle.std.specs.Str.{bytes_eq, is_utf8}
 use Rattle.std.specs.Str.Lines.{strip_carriage_return}

@@ -1,11 +1,11 @@
 -- What a session writes: a list of line groups, and how it ends.
-use Rattle.std.specs.Prelude.{ℕ, Bool, true, false, List, [], ◌∷◌, ◌++◌, Option, Some, None, Result, Ok, Err, ◌&&◌, not, if◌then◌else◌, codes, nat_lt, length, take, map}
+use Rattle.std.specs.Prelude.{ℕ, Bool, true, false, List, [], ◌∷◌, ◌++◌, Result, Ok, Err, ◌&&◌, not, if◌then◌else◌, codes, nat_lt, length, take, map}
 use Rattle.std.specs.List.{concat, list_any}
 use Rattle.std.specs.Option.{option_map_or}
 use Rattle.zw_def.specs.Text.{Text}
 use Rattle.zw_def.specs.Line.{lines_of, whole_lines}
 use Rattle.zw_def.specs.Folder.{Listing}
-use Rattle.zw_def_world.specs.Evaluation.{World, Expression, Outcome, expression_of, evaluated, line_of_ending}
+use Rattle.zw_def_world.specs.Evaluation.{World, Outcome, expression_of, evaluated, line_of_ending}
 use Rattle.zw_def_session.specs.Command.{Command, Reason, nothing, end, run, too_long, not_utf8, unknown, bad_argument, not_built, command_of}
 use Rattle.zw_def_session.specs.Command as command
 use Rattle.zw_def_session.specs.Start.{Refusal, Ending, done, limit, line_of_refusal, ending_of_refusal, started}

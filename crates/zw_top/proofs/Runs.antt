@@ -1,11 +1,11 @@
 -- A whole run.
-use Rattle.std.proofs.Common.{◌≡◌, ◌++◌, ℕ, List, [], ◌∷◌, Option, Some, None, Result, Ok, Err, IfSome, codes, refl, sym, ap, subst, ◌∙◌, rules}
+use Rattle.std.proofs.Common.{◌≡◌, ℕ, List, Option, Some, None, Result, Ok, Err, IfSome, refl, sym, subst}
 use Rattle.zw_def.specs.Text.{Text}
 use Rattle.zw_def.specs.Folder.{Listing}
 use Rattle.zw_def_world.specs.Evaluation.{World}
 use Rattle.zw_def_session.specs.Start as start
-use Rattle.zw_def_session.specs.Output.{Output, output, output_from, refused, text_of_groups}
-use Rattle.zw_io.specs.Told.{Rose, Appends, AppendsFront}
+use Rattle.zw_def_session.specs.Output.{output_from, refused, text_of_groups}
+use Rattle.zw_io.specs.Told.{Appends, AppendsFront}
 use Rattle.zw_run.specs.Held.{Held}
 use Rattle.zw_run.specs.World.{StandsFor}
 use Rattle.zw_top.specs.Refusals.{refusal_seen, Stops}

@@ -1,5 +1,5 @@
 -- The steps of a start.
-use Rattle.std.proofs.Common.{◌≡◌, ◌≢◌, ◌≤◌, ◌<◌, ◌+◌, ◌-◌, ◌++◌, ◌^◌, ℕ, Bool, true, false, List, [], ◌∷◌, Option, Some, None, Result, Ok, Err, IfSome, IsOk, MatchResult, map, take, length, nat_lt, cond, option_map, refl, sym, ap, subst, ◌∙◌, arith, rules, append_assoc, append-nil, length-append, inl, inr}
+use Rattle.std.proofs.Common.{◌≡◌, ◌≤◌, ◌<◌, ◌++◌, ℕ, true, false, List, [], ◌∷◌, Option, Some, None, Result, Ok, Err, IfSome, length, nat_lt, cond, refl, sym, ap, subst, ◌∙◌, arith, rules, append_assoc, append-nil, length-append, inl, inr}
 use Rattle.zw_def.specs.Text.{Text}
 use Rattle.zw_def.specs.Path.{Path, path_of}
 use Rattle.zw_path.specs.Fault.{path_fault}
@@ -11,7 +11,7 @@ use Rattle.std.proofs.lemmas.Bool.Decides.{nat_tests}
 use Rattle.std.proofs.lemmas.Str.{IsUtf8-from_ascii, IsUtf8-from_is_utf8, is_utf8-from_IsUtf8}
 use Rattle.zw_def.specs.Tree.{Tree}
 use Rattle.zw_def.specs.Folder.{Listing, unlisted}
-use Rattle.zw_def_session.specs.Start.{Start, is_root_byte, is_root_name, listed, long_listing, most_listed, with_text, with_listed, mounted}
+use Rattle.zw_def_session.specs.Start.{Start, is_root_byte, is_root_name, listed, long_listing, most_listed, with_text, with_listed}
 use Rattle.zw_io.specs.FolderAnswers.{ListsIfTold}
 use Rattle.zw_io.proofs.FolderLemmas.{lists_path}
 use Rattle.zw_run.proofs.Ascii.{all_ascii}

@@ -1,5 +1,5 @@
 -- A stream, line by line.
-use Rattle.std.proofs.Common.{◌≡◌, ◌≢◌, ◌≤◌, ◌<◌, ◌+◌, ◌-◌, ◌++◌, ◌==◌, ◌&&◌, ◌||◌, not, ℕ, zero, suc, Bool, true, false, List, [], ◌∷◌, Option, Some, None, Result, Ok, Err, IfSome, IfOk, map, take, drop, length, nat_lt, cond, codes, refl, sym, ap, subst, ◌∙◌, append_assoc, append-nil, arith, rules, length-append}
+use Rattle.std.proofs.Common.{◌≡◌, ◌≢◌, ◌≤◌, ◌<◌, ◌+◌, ◌++◌, ◌&&◌, ◌||◌, not, ℕ, zero, suc, Bool, true, false, List, [], ◌∷◌, Option, Some, None, Result, Ok, Err, IfSome, IfOk, map, take, length, nat_lt, cond, codes, refl, sym, ap, subst, ◌∙◌, append_assoc, append-nil, arith, rules, length-append}
 use Rattle.std.specs.List.{concat, All}
 use Rattle.std.specs.Option.{option_map_or}
 use Rattle.std.proofs.lemmas.Bool.Decides.{nat_tests}
@@ -9,11 +9,11 @@ use Rattle.std.proofs.lemmas.Option.{same_Some}
 use Rattle.std.proofs.Math.Seq.{take-append-add}
 use Rattle.zw_def.specs.Text.{Text}
 use Rattle.zw_def.specs.Line.{line_of, after_line, line_size, lines_of, whole_lines}
-use Rattle.zw_def_world.specs.Evaluation.{World, Expression, Outcome, expression_of, evaluated, line_of_ending}
+use Rattle.zw_def_world.specs.Evaluation.{World, Expression, expression_of, evaluated, line_of_ending}
 use Rattle.zw_def_session.specs.Start as start
 use Rattle.zw_def_session.specs.Command.{Command, is_long, is_comment, command_of, command_of_text}
 use Rattle.zw_def_session.specs.Command as command
-use Rattle.zw_def_session.specs.Output.{Group, Output, Answer, passed, ended, answered, text_of_group, text_of_groups, line_of_reason, answered_by, answer_to, answer_to_run, groups_after, groups_of, is_end, has_end, is_over, lines_within, is_cut, last_groups, served_lines, served}
+use Rattle.zw_def_session.specs.Output.{Group, Answer, passed, ended, answered, text_of_group, text_of_groups, line_of_reason, answered_by, answer_to, answer_to_run, groups_after, groups_of, is_end, has_end, is_over, lines_within, is_cut, last_groups, served_lines, served}
 use Rattle.zw_io.specs.Told.{Appends, AppendsFront}
 use Rattle.zw_io.specs.LineAnswers.{Counts, Answers, MeetsEnd, TakesLine, StopsWithin, IsWithinLine, HasLineFeed}
 use Rattle.zw_io.specs.declared.lines.LineEnd.{LineEnd}

@@ -1,5 +1,5 @@
 -- What a refusal stands for, and what the steps of a start answer.
-use Rattle.std.specs.Prelude.{◌≡◌, ℕ, List, Option, Some, None, Result, Ok, Err}
+use Rattle.std.specs.Prelude.{◌≡◌, ℕ, Result, Ok, Err}
 use Rattle.zw_def_session.specs.Start as defined
 use Rattle.zw_io.specs.Told.{Rose}
 use Rattle.zw_top.specs.declared.refusal.Refusal.{Refusal}

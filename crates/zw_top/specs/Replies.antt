@@ -1,6 +1,5 @@
 -- What the answers to lines write, and how a stream ends.
-use Rattle.std.specs.Prelude.{◌≡◌, ◌≢◌, ℕ, Bool, List, [], ◌∷◌, ◌++◌, Option, Some, None, Result, Ok, Err, if◌then◌else◌, codes, String, string_bytes}
-use Rattle.std.specs.declared.alloc.Global.{Global}
+use Rattle.std.specs.Prelude.{◌≡◌, ◌≢◌, ℕ, List, [], ◌∷◌, ◌++◌, Option, Some, Result, Ok, Err, if◌then◌else◌, codes, string_bytes}
 use Rattle.zw_def.specs.Text.{Text}
 use Rattle.zw_def.specs.Line.{whole_lines}
 use Rattle.zw_def_world.specs.Evaluation.{World}

@@ -1,5 +1,5 @@
 -- What a whole run writes, how it ends, and which counts rise.
-use Rattle.std.specs.Prelude.{◌≡◌, ℕ, List, Option, Result, Ok, Err, ◌++◌, codes}
+use Rattle.std.specs.Prelude.{◌≡◌, ℕ, List, Option, Ok, ◌++◌, codes}
 use Rattle.zw_def.specs.Text.{Text}
 use Rattle.zw_def.specs.Folder.{Listing}
 use Rattle.zw_def_world.specs.Evaluation.{World}

@@ -3,7 +3,6 @@ use Rattle.std.specs.Prelude.{◌≡◌, ◌+◌, ℕ, List, [], ◌∷◌, Opti
 use Rattle.std.specs.declared.alloc.Global.{Global}
 use Rattle.std.specs.Option.{option_map, option_map_or}
 use Rattle.zw_def.specs.Text.{Text}
-use Rattle.zw_def.specs.Path.{Path}
 use Rattle.zw_def.specs.Tree.{Tree}
 use Rattle.zw_def.specs.Folder.{Listing, bytes_at, unlisted}
 use Rattle.zw_def_world.specs.Evaluation.{World}

@@ -1,4 +1,4 @@
-use Rattle.std.proofs.Common.{Bool, true, false, if◌then◌else◌, ap, sym, ◌∙◌, rules}
+use Rattle.std.proofs.Common.{if◌then◌else◌, ap, sym, ◌∙◌}
 use Rattle.std.specs.Str.Lines.{strip_carriage_return}
 use Rattle.std.proofs.lemmas.Str.{is_utf8-from_IsUtf8}
 use Rattle.zw_def_session.specs.Command.{refused, not_utf8, command_in}

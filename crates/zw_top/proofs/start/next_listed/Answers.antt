@@ -1,4 +1,3 @@
-use Rattle.std.proofs.Common.{rules}
 use Rattle.zw_top.proofs.Starts.{lists_one}
 use Rattle.zw_top.proofs.start.next_listed.Goals as goal
 

@@ -1,4 +1,3 @@
-use Rattle.std.proofs.Common.{rules}
 use Rattle.zw_top.proofs.Starts.{with_other, with_valid}
 use Rattle.zw_top.proofs.start.take_listed.Goals as goal
 

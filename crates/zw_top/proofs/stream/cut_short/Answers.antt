@@ -1,4 +1,3 @@
-use Rattle.std.proofs.Common.{rules}
 use Rattle.zw_top.proofs.Streams.{cut_line}
 use Rattle.zw_top.proofs.stream.cut_short.Goals as goal
 

@@ -1,4 +1,3 @@
-use Rattle.std.proofs.Common.{rules}
 use Rattle.zw_top.proofs.Streams.{evaluates_line, evaluates_none}
 use Rattle.zw_top.proofs.stream.evaluate.Goals as goal
 
