@@ -109,6 +109,13 @@ impl Path {
         self.cmp(other).is_lt()
     }
 
+    /// How the path stands to the path of these components in path order.
+    pub fn cmp_components(&self, components: &[String]) -> Ordering
+        ensures { result ≡ path_cmp self.now (map string_bytes components.now) }
+    {
+        self.components.as_slice().cmp(components)
+    }
+
     /// The components with `/` between them.
     pub fn text(&self, alloc: Global) -> Result<String, AllocError>
         ensures { IfOk result (λ text. string_bytes text ≡ path_text self.now) }
@@ -173,6 +180,6 @@ impl Ord for Path {
     ghost matches_eq = { lists_ties (slice_cmp nat_cmp) texts_ties };
 
     fn cmp(&self, other: &Path) -> Ordering {
-        self.components.cmp(&other.components)
+        self.cmp_components(&other.components)
     }
 }

@@ -101,6 +101,14 @@ fn methods(rt: HostRuntime) -> Result<(), Fail> {
         let other = Path::parse(rt.alloc(), row.other)?;
         assert!(rt; path.is_below(&other) == row.below, "at {text:?}");
         assert!(rt; path.precedes(&other) == row.before, "at {text:?}");
+        assert!(rt;
+            path.cmp_components(other.components()).is_lt() == row.before,
+            "at {text:?}"
+        );
+        assert!(rt;
+            other.cmp_components(&other.components()[..0]).is_gt(),
+            "at {text:?}"
+        );
         assert!(rt; path.base() == row.base, "at {text:?}");
         assert!(rt; path.copy(rt.alloc())? == path, "at {text:?}");
         assert!(rt; path.text(rt.alloc())?.as_str() == text, "at {text:?}");

@@ -5,6 +5,9 @@ use zw_io::{Fail, Failed, Folder, Source};
 /// How many bytes a file may have, as a test sees it.
 pub const FULL: usize = 1_048_576;
 
+/// How many bytes the least class file has.
+pub const CLASS: usize = 14;
+
 const CONFIGURATION: &str = "[[root]]\npath = \"m\"\n";
 
 /// A source of so many bytes `#`, which are one comment.
@@ -28,23 +31,28 @@ impl Source for Comment {
     }
 }
 
-/// A folder that still lists `others` files that are no Ruby files, and then `classes` files down to `m/a000.rb`, which
-/// has `first` bytes, where each other one has as many as a file may have.
+/// A folder whose root is `m`. It still lists `others` files that are no Ruby files, and then, of `classes` files from
+/// `a000000.rb` on in the directory of this one letter, those past the `listed` ones. Each of them has `each` bytes, and
+/// the last one `last`.
 #[derive(Drop)]
 pub struct Large {
     pub others: usize,
+    pub directory: u8,
     pub classes: usize,
-    pub first: usize,
+    pub each: usize,
+    pub last: usize,
+    pub listed: usize,
 }
 
-fn digit(n: usize) -> u8 {
-    b'0' + (n % 10) as u8
-}
-
-fn write_path(into: &mut Vec<u8>, n: usize) -> Result<(), AllocError> {
-    into.extend_from_slice(b"m/a".as_slice())?;
-    into.extend_from_slice(&[digit(n / 100), digit(n / 10), digit(n)])?;
-    into.extend_from_slice(b".rb".as_slice())
+fn path_of(directory: u8, n: usize) -> [u8; 12] {
+    let mut path = *b"m/a000000.rb";
+    path[0] = directory;
+    let mut left = n;
+    for byte in path[3..9].iter_mut().rev() {
+        *byte = b'0' + (left % 10) as u8;
+        left /= 10;
+    }
+    path
 }
 
 const BLANKS: [u8; 1024] = [b' '; 1024];
@@ -60,7 +68,7 @@ fn write_blanks(into: &mut Vec<u8>, n: usize) -> Result<(), AllocError> {
 fn write_class(into: &mut Vec<u8>, size: usize) -> Result<(), AllocError> {
     let end = into.len().saturating_add(size);
     into.extend_from_slice(b"class Zed\n".as_slice())?;
-    write_blanks(into, size.saturating_sub(14))?;
+    write_blanks(into, size.saturating_sub(CLASS))?;
     into.extend_from_slice(b"end\n".as_slice())?;
     into.truncate(end);
     Ok(())
@@ -78,9 +86,10 @@ impl Folder for Large {
         let written = if self.others > 0 {
             self.others -= 1;
             into.extend_from_slice(b"x".as_slice())
-        } else if self.classes > 0 {
-            self.classes -= 1;
-            write_path(into, self.classes)
+        } else if self.listed < self.classes {
+            let place = self.listed;
+            self.listed += 1;
+            into.extend_from_slice(&path_of(self.directory, place))
         } else {
             return Ok(false);
         };
@@ -91,12 +100,13 @@ impl Folder for Large {
     }
 
     fn read(&mut self, path: &str, most: usize, into: &mut Vec<u8>) -> Result<bool, Fail> {
+        let last = path_of(self.directory, self.classes.saturating_sub(1));
         let written = if path == "zw.toml" {
             into.extend_from_slice(CONFIGURATION.as_bytes())
-        } else if path == "m/a000.rb" {
-            write_class(into, self.first.min(most))
+        } else if path.as_bytes() == last.as_slice() {
+            write_class(into, self.last.min(most))
         } else {
-            write_class(into, FULL.min(most))
+            write_class(into, self.each.min(most))
         };
         match written {
             Ok(()) => Ok(true),

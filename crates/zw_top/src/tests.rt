@@ -1,5 +1,5 @@
 // Whole sessions over objects in memory.
-use crate::large::{Comment, FULL, Large};
+use crate::large::{CLASS, Comment, FULL, Large};
 use crate::{Status, run};
 use std::alloc::Global;
 use std::process::Abort;
@@ -353,11 +353,14 @@ fn try_large(
     Ok(())
 }
 
-fn large(others: usize, classes: usize, first: usize) -> Large {
+fn large(others: usize, classes: usize, each: usize, last: usize) -> Large {
     Large {
         others,
+        directory: b'm',
         classes,
-        first,
+        each,
+        last,
+        listed: 0,
     }
 }
 
@@ -365,30 +368,44 @@ fn large(others: usize, classes: usize, first: usize) -> Large {
 #[test]
 fn stream_limit(rt: HostRuntime) -> Result<(), Fail> {
     let limit: usize = 1 << 30;
-    try_large(&rt, rt.alloc(), large(0, 0, 0), limit, "")?;
+    try_large(&rt, rt.alloc(), large(0, 0, 0, 0), limit, "")?;
     try_large(
         &rt,
         rt.alloc(),
-        large(0, 0, 0),
+        large(0, 0, 0, 0),
         limit + 1,
         "limit: stream\n",
     )
 }
 
-// A folder at each of its limits, and one past it. The listing's comes before those of the tree.
+// A folder at each of its limits, and one past it. The listing's comes before those of the tree, and that of the files
+// before those of bytes; files outside the root count among them.
 #[test]
 fn folder_limits(rt: HostRuntime) -> Result<(), Fail> {
     let folders = [
-        (1_000_000, 0, 0, ""),
-        (1_000_001, 0, 0, "limit: listing\n"),
-        (1_000_000, 1, FULL + 1, "limit: listing\n"),
-        (0, 1, FULL, ""),
-        (0, 1, FULL + 1, "limit: file m/a000.rb\n"),
-        (0, 256, FULL, ""),
-        (0, 257, 1, "limit: tree\n"),
+        (1_000_000, 0, 0, 0, ""),
+        (1_000_001, 0, 0, 0, "limit: listing\n"),
+        (1_000_000, 1, 0, FULL + 1, "limit: listing\n"),
+        (0, 1, 0, FULL, ""),
+        (0, 1, 0, FULL + 1, "limit: file m/a000000.rb\n"),
+        (0, 256, FULL, FULL, ""),
+        (0, 257, FULL, 1, "limit: tree\n"),
     ];
-    for (others, classes, first, output) in folders {
-        try_large(&rt, rt.alloc(), large(others, classes, first), 0, output)?;
+    for (others, classes, each, last, output) in folders {
+        let folder = large(others, classes, each, last);
+        try_large(&rt, rt.alloc(), folder, 0, output)?;
+    }
+    let outside = [
+        (100_000, CLASS, ""),
+        (100_001, CLASS, "limit: files\n"),
+        (100_001, FULL + 1, "limit: files\n"),
+    ];
+    for (classes, last, output) in outside {
+        let folder = Large {
+            directory: b'n',
+            ..large(0, classes, CLASS, last)
+        };
+        try_large(&rt, rt.alloc(), folder, 0, output)?;
     }
     Ok(())
 }

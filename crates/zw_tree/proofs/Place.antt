@@ -1,8 +1,6 @@
 -- A file is put at the first place that its path precedes.
-use Rattle.std.proofs.Common.{◌≡◌, ℕ, suc, ◌+◌, ◌≤◌, ltb, Some, None, arith, Bool, true, false, not, cond, List, [], ◌∷◌, length, map, refl, ap, ◌∙◌}
+use Rattle.std.proofs.Common.{◌≡◌, ℕ, suc, ◌+◌, ◌≤◌, arith, Bool, true, false, not, cond, List, [], ◌∷◌, length, map, refl, ap, ◌∙◌}
 use Rattle.std.specs.List.{insert, position_or_len}
-use Rattle.std.specs.Option.{unwrap_or}
-use Rattle.std.proofs.lemmas.Bool.{ltb-false}
 use Rattle.std.proofs.lemmas.List.{length-map}
 use Rattle.std.proofs.lemmas.List.Sums.{sum_by-insert, prefix_len-le-length}
 use Rattle.zw_def.specs.Text.{Text}
@@ -22,13 +20,6 @@ insert-place (f ∷ fs) path text = at (precedes path f.path) (insert-place fs p
   at false e =
       let one : 1 + place_in path fs ≡ suc (place_in path fs) = omega arith in
       ap (λ (n : ℕ). insert (f ∷ fs) n record { path = path; text = text }) one ∙ ap (λ files. f ∷ files) e
-
--- the index that was found, or else the length
-pub found_or_end : (place n : ℕ) → place ≤ n → unwrap_or (cond (ltb place n) (Some place) None) n ≡ place
-found_or_end place n few = at (ltb place n) refl where
-  at : (b : Bool) → ltb place n ≡ b → unwrap_or (cond b (Some place) None) n ≡ place
-  at true e = refl
-  at false e = omega (arith, ltb-false place n e)
 
 -- the code's files, where f tells each, and the place of a path in the tree that they tell
 module _ {A : Type 0} (f : A → File) (files : List A) (path : Path) (place : ℕ) (at : place ≡ place_in path (map f files)) where

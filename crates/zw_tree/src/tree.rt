@@ -1,9 +1,10 @@
 //! The tree.
-ghost use Rattle.std.specs.Prelude.{◌≡◌, ◌+◌, ◌^◌, ◌<◌, ◌==◌, [], ◌∷◌, length, map, OnOk, OnErr};
-ghost use Rattle.std.specs.List.{list_any, position_or_len};
+ghost use Rattle.std.specs.Prelude.{◌≡◌, ◌+◌, ◌^◌, ◌<◌, ◌==◌, ◌||◌, [], ◌∷◌, not, length, map, string_bytes, OnOk, OnErr};
+ghost use Rattle.std.specs.List.{list_any, position_or_len, find};
 ghost use Rattle.std.specs.Option.{option_map};
-ghost use Rattle.zw_def.specs.Path.{precedes};
+ghost use Rattle.zw_def.specs.Path.{precedes, same_path, is_below};
 ghost use Rattle.zw_def.specs.Tree.{admits, is_in_the_way, with_file, size_of};
+ghost use Rattle.zw_tree.specs.Rising.{IsRising};
 ghost use Rattle.zw_tree.specs.Seen.{file_seen};
 ghost use Rattle.zw_tree.specs.Text.{text_at};
 
@@ -29,13 +30,14 @@ pub struct Tree {
 impl Model for Tree {
     ghost use Rattle.std.specs.Prelude.{◌≡◌, map};
     ghost use Rattle.zw_def.specs.Tree.{Tree as Files, size_of};
+    ghost use Rattle.zw_tree.specs.Rising.{IsRising};
     ghost use Rattle.zw_tree.specs.Seen.{file_seen};
 
     ghost Value = { Files };
 
     ghost view = { λ t. map file_seen t.files.items };
 
-    ghost invariant = { λ t. t.size ≡ size_of (map file_seen t.files.items) };
+    ghost invariant = { λ t. (t.size ≡ size_of (map file_seen t.files.items)) × IsRising (map file_seen t.files.items) };
 }
 
 impl Tree {
@@ -85,9 +87,42 @@ impl Tree {
     fn is_in_the_way(&self, path: &Path) -> bool
         ensures { result ≡ is_in_the_way self.now path.now }
     {
-        self.files.iter().any(|file| file.path == *path
-            || file.path.is_below(path)
-            || path.is_below(&file.path))
+        self.is_taken(path) || self.is_below_file(path)
+    }
+
+    /// Whether the path is that of a file or of a directory.
+    fn is_taken(&self, path: &Path) -> bool
+        ensures { result ≡ list_any (λ f. same_path f.path path.now || is_below f.path path.now) self.now }
+    {
+        self.first_from(path.components())
+            .is_some_and(|file| file.path == *path || file.path.is_below(path))
+    }
+
+    /// Whether the path stands below a file.
+    fn is_below_file(&self, path: &Path) -> bool
+        ensures { result ≡ list_any (λ f. is_below path.now f.path) self.now }
+    {
+        let components = path.components();
+        (0..components.len()).any(|count| self.has_file(&components[..count]))
+    }
+
+    /// Whether a file has the path of these components.
+    fn has_file(&self, components: &[String]) -> bool
+        ensures { result ≡ list_any (λ f. same_path f.path (map string_bytes components.now)) self.now }
+    {
+        self.first_from(components)
+            .is_some_and(|file| file.path.cmp_components(components).is_eq())
+    }
+
+    /// The first file whose path does not stand before that of these components.
+    fn first_from(&self, components: &[String]) -> Option<&File>
+        ensures first { option_map (λ f. file_seen f.now) result ≡ find (λ f. not (precedes f.path (map string_bytes components.now))) self.now }
+        ensures rising { IsRising self.now }
+    {
+        let place = self
+            .files
+            .partition_point(|file| file.path.cmp_components(components).is_lt());
+        self.files.get(place)
     }
 
     /// Puts a file at its place in path order, over no other: ask `admits` first.
@@ -97,29 +132,25 @@ impl Tree {
         ensures err { OnErr result (self.new ≡ self.old) }
     {
         let size = self.size + text.len() as u64;
-        let place = place_of(&self.files, &path);
+        let place = self.place_of(&path);
         self.files.insert(place, File { path, text })?;
         self.size = size;
         Ok(())
+    }
+
+    /// The index of the first file that the path precedes, or the number of files where it precedes none.
+    fn place_of(&self, path: &Path) -> usize
+        ensures { result ≡ position_or_len (λ file. precedes path.now file.path) self.now }
+    {
+        self.files.partition_point(|file| file.path <= *path)
     }
 
     /// The bytes of the file at the path, if there is one.
     pub fn text(&self, path: &Path) -> Option<&[u8]>
         ensures { option_map (λ text. text.now) result ≡ text_at path.now self.now }
     {
-        self.files
-            .iter()
-            .find(|file| file.path == *path)
+        self.first_from(path.components())
+            .filter(|file| file.path == *path)
             .map(|file| file.text.as_slice())
     }
-}
-
-/// The index of the first file that the path precedes, or the number of files where it precedes none.
-fn place_of(files: &[File], path: &Path) -> usize
-    ensures { result ≡ position_or_len (λ file. precedes path.now file.path) (map file_seen files.now) }
-{
-    files
-        .iter()
-        .position(|file| path.precedes(&file.path))
-        .unwrap_or(files.len())
 }

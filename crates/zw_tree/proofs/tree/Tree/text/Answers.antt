@@ -1,16 +1,22 @@
-use Rattle.std.proofs.Common.{rules, tests, ◌∙◌, ap}
-use Rattle.std.proofs.lemmas.Iterator.{YieldsList-from_slice}
-use Rattle.std.proofs.lemmas.Iterator.Search.{find_from_yields_List}
-use Rattle.zw_def.specs.Path.{same_path}
+use Rattle.std.proofs.Common.{rules, tests, ◌∙◌, ap, sym, not}
+use Rattle.std.specs.List.{find}
+use Rattle.std.specs.Option.{option_map}
+use Rattle.zw_def.specs.Path.{same_path, precedes}
+use Rattle.zw_def.specs.Tree.{File}
 use Rattle.zw_tree.specs.Seen.{file_seen}
-use Rattle.zw_tree.specs.Text.{text_at}
-use Rattle.zw_tree.specs.declared.tree.File.{File}
-use Rattle.zw_tree.proofs.Mapped.{behind-map, told-find}
+use Rattle.zw_tree.proofs.Mapped.{behind-map, mapped_twice, left_kept, kept}
+use Rattle.zw_tree.proofs.Order.{same_behind, same_between}
+use Rattle.zw_tree.proofs.Rising.{find_at_first}
 use Rattle.zw_tree.proofs.tree.Tree.text.Goals as goal
 
 pub returns : goal.returns
 returns c =
-    let files = c.self.inside.files.items in
-    behind-map (λ x. x.now.text.items) (λ y. y.now) _ c.find.result c.map.result c.map.ensures.cases (λ x y k. search (rules, tests))
-    ∙ told-find file_seen (λ file. same_path file.path c.args.path.now) (λ file. file.text) (λ x. x.now) files c.find.result (find_from_yields_List (λ (file : File). same_path file.path c.args.path.now) _ _ c.find.result c.find.ensures.ran (YieldsList-from_slice files (c.iter.ensures.rest ∙ c.deref.ensures.value)) (λ x b q k. search (rules, tests)))
-    ∙ ap (text_at c.args.path.now) c.self.view_is
+    let path = c.args.path.now in
+    let tree = c.args.self.now in
+    let found =
+    left_kept (λ x. file_seen x.now) (λ f. same_path f.path path) _ c.first_from.result c.filter.result c.filter.ensures (λ x b k. search (rules, tests))
+    ∙ ap (kept (λ (f : File). same_path f.path path)) (c.first_from.ensures.first ∙ ap (λ p. find (λ (f : File). not (precedes f.path p)) tree) c.components.ensures.value)
+    ∙ sym (find_at_first path (λ p. same_path p path) (same_behind path) (same_between path) tree c.first_from.ensures.rising) in
+    behind-map (λ x. x.now.text.items) (λ y. y.now) _ c.filter.result c.map.result c.map.ensures.cases (λ x y k. search (rules, tests))
+    ∙ mapped_twice (λ x. file_seen x.now) (λ f. f.text) c.filter.result
+    ∙ ap (option_map (λ (f : File). f.text)) found
