@@ -1,9 +1,8 @@
 -- The map of a tree: which file each constant is loaded from.
 -- So far it speaks of one root, whose namespace is Object, and of the files directly below it.
-use Rattle.std.specs.Prelude.{ℕ, Bool, false, List, [], ◌∷◌, Option, Some, None, ◌&&◌, ◌||◌, ◌==◌, ◌+◌, if◌then◌else◌, length, filter, find}
-use Rattle.std.specs.List.{list_all}
+use Rattle.std.specs.Prelude.{Bool, false, List, Option, Some, None, ◌&&◌, ◌==◌, ◌+◌, if◌then◌else◌, length, filter, find}
 use Rattle.std.specs.Str.{bytes_eq}
-use Rattle.zw_def.specs.Text.{Text, is_lower, is_digit}
+use Rattle.zw_def.specs.Text.{Text, is_plain_word}
 use Rattle.zw_def.specs.Path.{Path, is_below}
 use Rattle.zw_def.specs.Base.{base_of}
 use Rattle.zw_def.specs.Tree.{File, Tree}
@@ -13,17 +12,9 @@ use Rattle.zw_def.specs.Constant.{camelized}
 abbrev pub visible : Path → Tree → List File
 visible root tree = filter (λ f. is_below f.path root) tree
 
-abbrev pub is_base_byte : ℕ → Bool
-is_base_byte b = is_lower b || is_digit b || b == 95
-
--- a base name that is built so far: `a` to `z`, then `a` to `z`, digits and `_`
-abbrev pub is_plain_base : Text → Bool
-is_plain_base [] = false
-is_plain_base (b ∷ bs) = is_lower b && list_all is_base_byte bs
-
--- a file that is built so far: directly below the root, with such a base name
+-- a file that is built so far: directly below the root, with a plain word as its base name
 abbrev pub is_plain : Path → Path → Bool
-is_plain root path = length path == length root + 1 && is_plain_base (base_of path)
+is_plain root path = length path == length root + 1 && is_plain_word (base_of path)
 
 -- the constant that a visible file is expected to define, where it is one that is built
 abbrev pub expected_name : Path → File → Option Text

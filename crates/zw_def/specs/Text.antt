@@ -1,6 +1,6 @@
 -- Texts, which are lists of bytes, and their pieces.
-use Rattle.std.specs.Prelude.{ℕ, Bool, List, ◌==◌, ◌&&◌, nat_le, length, if◌then◌else◌, Option, Some, None, take, drop}
-use Rattle.std.specs.List.{slice_split, join_with_byte}
+use Rattle.std.specs.Prelude.{ℕ, Bool, false, List, [], ◌∷◌, ◌==◌, ◌&&◌, ◌||◌, nat_le, length, if◌then◌else◌, Option, Some, None, take, drop}
+use Rattle.std.specs.List.{slice_split, join_with_byte, list_all}
 use Rattle.std.specs.Str.{bytes_eq}
 
 abbrev pub Text : Type 0
@@ -26,3 +26,12 @@ is_lower b = nat_le 97 b && nat_le b 122
 
 abbrev pub is_upper : ℕ → Bool
 is_upper b = nat_le 65 b && nat_le b 90
+
+-- `a` to `z`, digits and `_`
+abbrev pub is_plain_byte : ℕ → Bool
+is_plain_byte b = is_lower b || is_digit b || b == 95
+
+-- a word of such bytes that begins with `a` to `z`
+abbrev pub is_plain_word : Text → Bool
+is_plain_word [] = false
+is_plain_word (b ∷ bs) = is_lower b && list_all is_plain_byte bs

@@ -1,15 +1,15 @@
 -- How a session starts: the words, the configuration, the listing, the tree, and the first refusal among these.
-use Rattle.std.specs.Prelude.{ℕ, Bool, List, [], ◌∷◌, ◌++◌, Option, Some, None, Result, Ok, Err, ◌&&◌, ◌||◌, ◌==◌, ◌-◌, ◌+◌, if◌then◌else◌, codes, nat_le, nat_lt, length, take, drop, unwrap_or}
+use Rattle.std.specs.Prelude.{ℕ, Bool, List, [], ◌∷◌, ◌++◌, Option, Some, None, Result, Ok, Err, ◌&&◌, ◌-◌, ◌+◌, if◌then◌else◌, codes, nat_le, nat_lt, length, take, drop, unwrap_or}
 use Rattle.std.specs.List.{list_all}
 use Rattle.std.specs.Option.{option_and_then, option_map_or, ok_or}
 use Rattle.std.specs.Str.{bytes_eq, is_utf8}
-use Rattle.zw_def.specs.Text.{Text, after_prefix, is_lower, is_digit}
+use Rattle.zw_def.specs.Text.{Text, after_prefix, is_plain_byte}
 use Rattle.zw_def.specs.Path.{Path, path_of, path_text}
 use Rattle.zw_def.specs.Tree.{Tree, admits, with_file, size_of}
 use Rattle.zw_def.specs.Map.{visible}
 use Rattle.zw_def.specs.Folder.{Listing, bytes_at, unlisted}
 use Rattle.zw_def_world.specs.Built.{first_other}
-use Rattle.zw_def_world.specs.Evaluation.{World}
+use Rattle.zw_def_world.specs.Evaluation.{World, world_at}
 
 -- ---- refusals
 
@@ -88,12 +88,9 @@ configuration_path (word ∷ next ∷ more) = Err bad_words
 
 -- ---- the configuration
 
-abbrev pub is_root_byte : ℕ → Bool
-is_root_byte b = is_lower b || is_digit b || b == 95
-
 -- a root's name that is built so far: `a` to `z`, digits and `_`
 abbrev pub is_root_name : Text → Bool
-is_root_name name = list_all is_root_byte name
+is_root_name name = list_all is_plain_byte name
 
 abbrev pub root_text : Text → Option Text
 root_text name = if is_root_name name then Some name else None
@@ -168,7 +165,7 @@ abbrev pub tree_of : Path → Listing → Start Tree
 tree_of fixed folder = listed folder >>= λ texts. mounted fixed folder.files [] texts
 
 abbrev pub world_of : Path → Tree → Start World
-world_of root tree = option_map_or (λ path. Err (other_file path)) (first_other root (visible root tree)) (Ok (record { root = root; tree = tree; table = []; gone = [] }))
+world_of root tree = option_map_or (λ path. Err (other_file path)) (first_other root (visible root tree)) (Ok (world_at root tree))
 
 -- ---- the start
 
@@ -176,9 +173,13 @@ world_of root tree = option_map_or (λ path. Err (other_file path)) (first_other
 abbrev pub world_in : Path → Path → Listing → Start World
 world_in root path folder = tree_of path folder >>= world_of root
 
+-- the root that the configuration at this path names
+abbrev pub root_at : Path → Listing → Start Path
+root_at path folder = configuration_text path folder.files >>= root_of
+
 -- with the configuration at this path
 abbrev pub started_at : Path → Listing → Start World
-started_at path folder = configuration_text path folder.files >>= λ text. root_of text >>= λ root. world_in root path folder
+started_at path folder = root_at path folder >>= λ root. world_in root path folder
 
 -- the world in which the first command is carried out, or the first refusal
 abbrev pub started : List Text → Listing → Start World

@@ -1,25 +1,18 @@
 -- Which trees are carried out so far: each visible file stands directly below the root, has a base name of its own that
 -- is no core class's, and is a class file, whose class is the one that it is expected to define or one that no visible
 -- file is expected to define.
-use Rattle.std.specs.Prelude.{Bool, not, Option, Some, None, List, [], ◌∷◌, ◌++◌, ◌&&◌, ◌||◌, if◌then◌else◌, codes}
+use Rattle.std.specs.Prelude.{Bool, not, Option, Some, None, List, [], ◌∷◌, ◌++◌, ◌&&◌, ◌||◌, if◌then◌else◌}
 use Rattle.std.specs.List.{list_any, filter_map}
 use Rattle.std.specs.Option.{option_and_then, option_map_or}
 use Rattle.std.specs.Str.{bytes_eq}
-use Rattle.zw_def.specs.Text.{Text, pieces}
+use Rattle.zw_def.specs.Text.{Text}
 use Rattle.zw_def.specs.Path.{Path}
 use Rattle.zw_def.specs.Tree.{File}
 use Rattle.zw_def.specs.Map.{expected_name}
-use Rattle.zw_def_world.specs.ClassFile.{ClassFile, class_file}
-
--- the core classes and modules
-unfoldable pub core_names : Text
-core_names = codes "ArgumentError Array Class Exception FalseClass FrozenError IndexError Integer Kernel LoadError Module NameError NilClass NoMethodError Object RangeError RuntimeError ScriptError StandardError String Symbol SyntaxError TrueClass TypeError ZeroDivisionError Zeitwerk"
+use Rattle.zw_def_world.specs.ClassFile.{ClassFile, class_file, is_core}
 
 abbrev pub is_among : List Text → Text → Bool
 is_among names name = list_any (bytes_eq name) names
-
-abbrev pub is_core : Text → Bool
-is_core name = is_among (pieces 32 core_names) name
 
 -- the constants that the files are expected to define, in the order of the files
 abbrev pub expected_names : Path → List File → List Text

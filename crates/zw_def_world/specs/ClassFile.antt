@@ -6,7 +6,7 @@ use Rattle.std.specs.List.{list_all, list_any}
 use Rattle.std.specs.Option.{option_and_then, option_map}
 use Rattle.std.specs.Str.{bytes_eq}
 use Rattle.std.specs.Str.Parse.{digits_value}
-use Rattle.zw_def.specs.Text.{Text, pieces, after_prefix, is_digit, is_lower, is_upper}
+use Rattle.zw_def.specs.Text.{Text, pieces, after_prefix, is_digit, is_lower, is_upper, is_plain_word}
 
 -- ---- words
 
@@ -17,26 +17,26 @@ abbrev pub is_class_word : Text → Bool
 is_class_word [] = false
 is_class_word (b ∷ bs) = is_upper b && list_all is_class_byte bs
 
--- the core classes and modules, and the two words in capitals that no constant may have (ISO/IEC 30170, 8.7.2, keywords)
-unfoldable pub reserved_class_names : Text
-reserved_class_names = codes "ArgumentError Array BEGIN Class END Exception FalseClass FrozenError IndexError Integer Kernel LoadError Module NameError NilClass NoMethodError Object RangeError RuntimeError ScriptError StandardError String Symbol SyntaxError TrueClass TypeError ZeroDivisionError Zeitwerk"
+-- the core classes and modules
+unfoldable pub core_names : Text
+core_names = codes "ArgumentError Array Class Exception FalseClass FrozenError IndexError Integer Kernel LoadError Module NameError NilClass NoMethodError Object RangeError RuntimeError ScriptError StandardError String Symbol SyntaxError TrueClass TypeError Zeitwerk ZeroDivisionError"
+
+abbrev pub is_core : Text → Bool
+is_core name = list_any (bytes_eq name) (pieces 32 core_names)
+
+-- the two words in capitals that no constant may have (ISO/IEC 30170, 8.7.2, keywords)
+abbrev pub is_keyword : Text → Bool
+is_keyword word = bytes_eq word (codes "BEGIN") || bytes_eq word (codes "END")
 
 abbrev pub is_class_name : Text → Bool
-is_class_name word = is_class_word word && not (list_any (bytes_eq word) (pieces 32 reserved_class_names))
-
-abbrev pub is_method_byte : ℕ → Bool
-is_method_byte b = is_lower b || is_digit b || b == 95
-
-abbrev pub is_method_word : Text → Bool
-is_method_word [] = false
-is_method_word (b ∷ bs) = is_lower b && list_all is_method_byte bs
+is_class_name word = is_class_word word && not (is_core word || is_keyword word)
 
 -- the keywords, the words that are outside the profile, and the methods that every class has
 unfoldable pub reserved_method_names : Text
 reserved_method_names = codes "alias ancestors and attr_accessor attr_reader attr_writer begin break case class const_get def do else elsif end ensure extend false for freeze if in include initialize inspect module name new next nil not or private private_class_method public puts raise redo rescue retry return self super superclass then to_s true undef unless until when while yield"
 
 abbrev pub is_method_name : Text → Bool
-is_method_name word = is_method_word word && not (list_any (bytes_eq word) (pieces 32 reserved_method_names))
+is_method_name word = is_plain_word word && not (list_any (bytes_eq word) (pieces 32 reserved_method_names))
 
 -- digits without a leading zero, but for `0` itself (ISO/IEC 30170, 8.7.6.2)
 abbrev pub is_numeral : Text → Bool

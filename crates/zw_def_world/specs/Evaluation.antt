@@ -19,6 +19,10 @@ pub record World : Type 0 where
   pub table : List ClassFile
   pub gone : List Text
 
+-- the world at the start: no constant is set, and no key is gone
+abbrev pub world_at : Path → Tree → World
+world_at root tree = record { root = root; tree = tree; table = []; gone = [] }
+
 -- ---- expressions
 
 pub data Expression : Type 0 where

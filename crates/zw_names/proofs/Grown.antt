@@ -66,7 +66,7 @@ not_true : (b : Bool) → (b ≡ true → ⊥) → b ≡ false
 not_true true f = absurd (f refl)
 not_true false f = refl
 
-none_at : (names : List Text) (text : Text) → list_any (bytes_eq text) names ≡ false → (n : ℕ) → slice_get names n ≡ Some text → ⊥
+pub none_at : (names : List Text) (text : Text) → list_any (bytes_eq text) names ≡ false → (n : ℕ) → slice_get names n ≡ Some text → ⊥
 none_at names text none n at = absurd (true≢false (sym (list_any-from_Any (bytes_eq text) names (n, text, slice_get_within names n text at, get_or_from_slice_get names n text text at, (bytes_eq-Decides text text).1 refl)) ∙ none))
 
 pub texts_pushed : (ss more : List (String Global)) (s : String Global) (names : List Text) (text : Text) → map string_bytes ss ≡ names → more ≡ ss ++ s ∷ [] → string_bytes s ≡ text → map string_bytes more ≡ names ++ text ∷ []

@@ -20,6 +20,10 @@ with_name names text = if list_any (bytes_eq text) names then names else names +
 abbrev pub AreNamed : List Text → List ℕ → Type 0
 AreNamed names numbers = All (λ n. n < length names) numbers
 
+-- the text of a number
+abbrev pub text_of : List Text → ℕ → Text
+text_of names n = unwrap_or (slice_get names n) []
+
 -- the texts of the numbers
 abbrev pub texts_of : List Text → List ℕ → List Text
-texts_of names numbers = map (λ n. unwrap_or (slice_get names n) []) numbers
+texts_of names numbers = map (text_of names) numbers

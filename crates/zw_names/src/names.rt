@@ -1,5 +1,7 @@
 //! A table of names.
-ghost use Rattle.std.specs.Prelude.{◌≡◌, ◌<◌, [], ◌==◌, Some, IfOk, IsOkAnd, OnOk, OnErr, length, slice_get};
+ghost use Rattle.std.specs.Prelude.{◌≡◌, ◌<◌, [], ◌==◌, Some, IfSome, IfOk, IsOkAnd, OnOk, OnErr, is_some, length, slice_get};
+ghost use Rattle.std.specs.List.{list_any};
+ghost use Rattle.std.specs.Str.{bytes_eq};
 ghost use Rattle.zw_names.specs.Names.{IsDistinct, OnlyGrows, with_name};
 
 use indexmap::IndexSet;
@@ -59,6 +61,16 @@ impl Names {
         let number = self.texts.len();
         self.texts.insert(String::from_str(self.alloc, text)?)?;
         Ok(Name(number))
+    }
+
+    /// The name with a text, if one was made. No other name has the text.
+    pub fn find(&self, text: &str) -> Option<Name>
+        ensures named { IfSome result (λ name. slice_get self.now name.0 ≡ Some text.now) }
+        ensures found { is_some result ≡ list_any (bytes_eq text.now) self.now }
+        ensures distinct { IsDistinct self.now }
+    {
+        let number = self.texts.get_index_of(text)?;
+        Some(Name(number))
     }
 
     /// The text of a name that was made here.

@@ -10,6 +10,8 @@ fn equal_texts_have_equal_names(rt: HostRuntime) -> Result<(), Fail> {
     assert_eq!(rt; names.intern("first")?, first);
     assert!(rt; first != second);
     assert_eq!(rt; names.text(second), "second");
+    assert_eq!(rt; names.find("second"), Some(second));
+    assert!(rt; names.find("secon").is_none());
     let copy = names.copy()?;
     assert_eq!(rt; copy.len(), 2);
     assert_eq!(rt; copy.text(first), "first");

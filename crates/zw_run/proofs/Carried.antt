@@ -11,8 +11,8 @@ use Rattle.zw_def.specs.Text.{Text}
 use Rattle.zw_def.specs.Path.{Path}
 use Rattle.zw_def.specs.Tree.{File}
 use Rattle.zw_def.specs.Map.{expected_name, is_name}
-use Rattle.zw_def_world.specs.ClassFile.{ClassFile, class_file}
-use Rattle.zw_def_world.specs.Built.{Carried, carried, carried_as, is_among, is_core, may_define, expected_names, first_other_from}
+use Rattle.zw_def_world.specs.ClassFile.{ClassFile, class_file, is_core}
+use Rattle.zw_def_world.specs.Built.{Carried, carried, carried_as, is_among, may_define, expected_names, first_other_from}
 
 -- ---- texts
 

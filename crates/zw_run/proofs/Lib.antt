@@ -4,6 +4,8 @@ pub mod Carried
 pub mod Firsts
 pub mod Integers
 pub mod Methods
+pub mod Looked
+pub mod Named
 pub mod Options
 pub mod Started
 pub mod Taken

@@ -1,20 +1,59 @@
 -- A key whose file is taken, and a table in which a class is opened.
-use Rattle.std.proofs.Common.{◌≡◌, ◌++◌, ℕ, List, [], ◌∷◌, Some, None, option_map, map, get_or, refl, sym, ap, ◌∙◌, append-nil, string_bytes}
-use Rattle.std.specs.List.{position}
+use Rattle.std.proofs.Common.{◌≡◌, ◌++◌, ◌<◌, ℕ, zero, suc, Bool, List, [], ◌∷◌, Option, Some, None, IfSome, option_map, get_or, length, slice_get, Vec, Global, refl, sym, ap, ◌∙◌, append-nil, arith, subst}
+use Rattle.indexmap.specs.IndexMap.{set_value_at}
+use Rattle.std.specs.List.{All, position}
+use Rattle.std.specs.Map.{values_of}
 use Rattle.std.specs.Option.{option_and_then}
 use Rattle.std.specs.Str.{bytes_eq}
 use Rattle.std.proofs.Math.ListN.{set, get_or-map}
 use Rattle.std.proofs.lemmas.List.{map-set, map-append}
+use Rattle.std.proofs.lemmas.List.Elements.{All-head, All-tail, All-cons, All-same, All-append}
 use Rattle.zw_def.specs.Text.{Text}
 use Rattle.zw_def_world.specs.ClassFile as defined
 use Rattle.zw_def_world.specs.Evaluation.{opened}
+use Rattle.zw_names.specs.Names.{text_of}
+use Rattle.zw_names.specs.declared.names.Name.{Name}
 use Rattle.zw_run.specs.Held as held
 use Rattle.zw_run.specs.Held.{idle_file, without_file, spent}
-use Rattle.zw_run.specs.Seen.{class_seen, method_seen}
-use Rattle.zw_run.specs.Keys.{idle_seen, key_seen}
-use Rattle.zw_run.specs.declared.keys.Key.{Key}
+use Rattle.zw_run.specs.Seen.{class_seen, method_seen, methods_seen, MethodsNamed, ClassNamed}
+use Rattle.zw_run.specs.Keys.{idle_seen, key_seen, keys_seen, KeyNamed, KeysNamed}
+use Rattle.zw_run.specs.Table.{entry_seen, classes_seen, EntryNamed, ClassesNamed}
+use Rattle.zw_run.specs.declared.keys.IdleFile.{IdleFile}
+use Rattle.zw_run.specs.declared.class_file.Method.{Method}
 use Rattle.zw_run.specs.declared.class_file.ClassFile.{ClassFile}
 use Rattle.zw_run.proofs.Firsts.{find_none, find_place, changed_at, changed_none}
+
+-- ---- entries by their places
+
+-- the entry whose value stands at a place
+pub record Entry {N V : Type 0} (es : List (N × V)) (i : ℕ) (v : V) : Type 0 where
+  pub key : N
+  pub within : i < length es
+  pub is : get_or es i (key, v) ≡ (key, v)
+
+pub entry_at : {N V : Type 0} (es : List (N × V)) (i : ℕ) (v : V) → slice_get (values_of es) i ≡ Some v → Entry es i v
+entry_at [] i v at = cc
+entry_at (e ∷ es) zero v at = let same : e.1 ≡ v = cc at in record { key = e.0; within = omega arith; is = λ j. (e.0, same j) }
+entry_at (e ∷ es) (suc i) v at = let rest = entry_at es i v at in record { key = rest.key; within = omega (arith, rest.within); is = rest.is }
+
+pub written : {N V : Type 0} (es : List (N × V)) (i : ℕ) (w : V) (d : N × V) → set_value_at es i w ≡ set es i ((get_or es i d).0, w)
+written [] i w d = refl
+written (e ∷ es) zero w d = refl
+written (e ∷ es) (suc i) w d = ap (λ l. e ∷ l) (written es i w d)
+
+-- what holds of each entry holds of each where a value is written
+pub All-written : {N V : Type 0} (P : N × V → Type 0) (es : List (N × V)) (i : ℕ) (w : V) → ((e : N × V) → P e → P (e.0, w)) → All P es → All P (set_value_at es i w)
+All-written P [] i w keeps all = all
+All-written P (e ∷ es) zero w keeps all = All-cons P (e.0, w) es (keeps e (All-head P e es all)) (All-tail P e es all)
+All-written P (e ∷ es) (suc i) w keeps all = All-cons P e (set_value_at es i w) (All-head P e es all) (All-written P es i w keeps (All-tail P e es all))
+
+-- ---- keys
+
+pub value_named : (names : List Text) (ks : List (Name × Option IdleFile)) (i : ℕ) (file : Option IdleFile) → slice_get (values_of ks) i ≡ Some file → KeysNamed names ks → IfSome file (λ f. ClassNamed names f.class)
+value_named names ks i file at named = let here = entry_at ks i file at in (subst (KeyNamed names) here.is (named i (here.key, file) here.within)).1
+
+pub left_kept : (names : List Text) (ks : List (Name × Option IdleFile)) (i : ℕ) → KeysNamed names ks → KeysNamed names (set_value_at ks i None)
+left_kept names ks i named = All-written (KeyNamed names) ks i None (λ k h. (h.0, tt)) named
 
 pub idle_none : (name : Text) (ks : List held.Key) → position (λ k. bytes_eq k.name name) ks ≡ None → idle_file name ks ≡ None
 idle_none name ks none = ap (option_and_then (λ (k : held.Key). k.file)) (find_none (λ (k : held.Key). bytes_eq k.name name) ks none)
@@ -23,32 +62,56 @@ pub left_none : (name : Text) (ks : List held.Key) → position (λ k. bytes_eq 
 left_none name ks none =
     sym (changed_none (λ (k : held.Key). bytes_eq k.name name) spent (without_file name) (λ k ks. refl) ks (find_none _ ks none) ∙ append-nil ks)
 
-pub idle_at : (name : Text) (ks : List Key) (i : ℕ) (d : Key) → position (λ k. bytes_eq k.name name) (map key_seen ks) ≡ Some i → option_map idle_seen (get_or ks i d).file ≡ idle_file name (map key_seen ks)
-idle_at name ks i d at =
-    sym (ap (option_and_then (λ (k : held.Key). k.file)) (find_place (λ (k : held.Key). bytes_eq k.name name) (map key_seen ks) i (key_seen d) at ∙ ap Some (get_or-map key_seen ks i d)))
+module _ (names : List Text) (name : Text) (ks : List (Name × Option IdleFile)) (i : ℕ) (file : Option IdleFile) (at : slice_get (values_of ks) i ≡ Some file) (first : position (λ k. bytes_eq k.name name) (keys_seen names ks) ≡ Some i) where
+  abbrev here : Entry ks i file
+  here = entry_at ks i file at
 
-pub left_at : (name : Text) (ks : List Key) (i : ℕ) (d new : Key) → string_bytes new.name ≡ string_bytes (get_or ks i d).name → new.file ≡ None → position (λ k. bytes_eq k.name name) (map key_seen ks) ≡ Some i → map key_seen (set ks i new) ≡ without_file name (map key_seen ks)
-left_at name ks i d new same none at =
-    let is : key_seen new ≡ spent (key_seen (get_or ks i d)) = λ j. record { name = same j; file = option_map idle_seen (none j) } in
-    map-set key_seen ks i new
-    ∙ ap (set (map key_seen ks) i) (is ∙ ap spent (sym (get_or-map key_seen ks i d)))
-    ∙ changed_at (λ (k : held.Key). bytes_eq k.name name) spent (without_file name) (λ k ks. refl) (map key_seen ks) i (key_seen d) at
+  abbrev key : Name × Option IdleFile
+  key = (here.key, file)
+
+  -- the key at the place
+  there : get_or (keys_seen names ks) i (key_seen names key) ≡ key_seen names key
+  there = get_or-map (key_seen names) ks i key ∙ ap (key_seen names) here.is
+
+  pub idle_at : option_map (idle_seen names) file ≡ idle_file name (keys_seen names ks)
+  idle_at = sym (ap (option_and_then (λ (k : held.Key). k.file)) (find_place (λ (k : held.Key). bytes_eq k.name name) (keys_seen names ks) i (key_seen names key) first ∙ ap Some there))
+
+  pub left_at : keys_seen names (set_value_at ks i None) ≡ without_file name (keys_seen names ks)
+  left_at =
+      ap (keys_seen names) (written ks i None key ∙ ap (λ (k : Name × Option IdleFile). set ks i (k.0, None)) here.is)
+      ∙ map-set (key_seen names) ks i (here.key, None)
+      ∙ ap (λ k. set (keys_seen names ks) i (spent k)) (sym there)
+      ∙ changed_at (λ (k : held.Key). bytes_eq k.name name) spent (without_file name) (λ k ks. refl) (keys_seen names ks) i (key_seen names key) first
+
+-- ---- classes
 
 -- the class c with the methods of another added
 abbrev pub joined : defined.ClassFile → defined.ClassFile → defined.ClassFile
 joined class c = record { name = c.name; methods = c.methods ++ class.methods }
 
-pub opened_none : (cs : List ClassFile) (class : ClassFile) → position (λ c. bytes_eq c.name (string_bytes class.name)) (map class_seen cs) ≡ None → map class_seen (cs ++ class ∷ []) ≡ opened (map class_seen cs) (class_seen class)
-opened_none cs class none =
-    let p = λ (c : defined.ClassFile). bytes_eq c.name (string_bytes class.name) in
-    map-append class_seen cs (class ∷ [])
-    ∙ sym (changed_none p (joined (class_seen class)) (λ l. opened l (class_seen class)) (λ c cs. refl) (map class_seen cs) (find_none p (map class_seen cs) none))
+module _ (names : List Text) (cs : List (Name × Vec Method Global)) (class : ClassFile) where
+  abbrev is_name : defined.ClassFile → Bool
+  is_name c = bytes_eq c.name (text_of names class.name.0)
 
-pub opened_at : (cs : List ClassFile) (class : ClassFile) (i : ℕ) (d new : ClassFile) → d ≡ get_or cs i d → string_bytes new.name ≡ string_bytes d.name → new.methods.items ≡ d.methods.items ++ class.methods.items → position (λ c. bytes_eq c.name (string_bytes class.name)) (map class_seen cs) ≡ Some i → map class_seen (set cs i new) ≡ opened (map class_seen cs) (class_seen class)
-opened_at cs class i d new here name methods at =
-    let p = λ (c : defined.ClassFile). bytes_eq c.name (string_bytes class.name) in
-    let g = joined (class_seen class) in
-    let is : class_seen new ≡ g (class_seen d) = λ j. record { name = name j; methods = (ap (map method_seen) methods ∙ map-append method_seen d.methods.items class.methods.items) j } in
-    map-set class_seen cs i new
-    ∙ ap (set (map class_seen cs) i) (is ∙ ap (λ x. g (class_seen x)) here ∙ ap g (sym (get_or-map class_seen cs i d)))
-    ∙ changed_at p g (λ l. opened l (class_seen class)) (λ c cs. refl) (map class_seen cs) i (class_seen d) at
+  pub opened_none : position is_name (classes_seen names cs) ≡ None → classes_seen names (cs ++ (class.name, class.methods) ∷ []) ≡ opened (classes_seen names cs) (class_seen names class)
+  opened_none none =
+      map-append (entry_seen names) cs ((class.name, class.methods) ∷ [])
+      ∙ sym (changed_none is_name (joined (class_seen names class)) (λ l. opened l (class_seen names class)) (λ c cs. refl) (classes_seen names cs) (find_none is_name (classes_seen names cs) none))
+
+  pub opened_at : (i : ℕ) (old new : Vec Method Global) → slice_get (values_of cs) i ≡ Some old → new.items ≡ old.items ++ class.methods.items → position is_name (classes_seen names cs) ≡ Some i → classes_seen names (set_value_at cs i new) ≡ opened (classes_seen names cs) (class_seen names class)
+  opened_at i old new at methods first =
+      let here = entry_at cs i old at in
+      let g = joined (class_seen names class) in
+      let there : get_or (classes_seen names cs) i (entry_seen names (here.key, old)) ≡ entry_seen names (here.key, old) = get_or-map (entry_seen names) cs i (here.key, old) ∙ ap (entry_seen names) here.is in
+      let is : entry_seen names (here.key, new) ≡ g (entry_seen names (here.key, old)) = λ j. record { name = text_of names here.key.0; methods = (ap (methods_seen names) methods ∙ map-append (method_seen names) old.items class.methods.items) j } in
+      ap (classes_seen names) (written cs i new (here.key, old) ∙ ap (λ (c : Name × Vec Method Global). set cs i (c.0, new)) here.is)
+      ∙ map-set (entry_seen names) cs i (here.key, new)
+      ∙ ap (set (classes_seen names cs) i) (is ∙ ap g (sym there))
+      ∙ changed_at is_name g (λ l. opened l (class_seen names class)) (λ c cs. refl) (classes_seen names cs) i (entry_seen names (here.key, old)) first
+
+pub classes_kept : (names : List Text) (cs : List (Name × Vec Method Global)) (i : ℕ) (old new : Vec Method Global) (more : List Method) → slice_get (values_of cs) i ≡ Some old → new.items ≡ old.items ++ more → ClassesNamed names cs → MethodsNamed names more → ClassesNamed names (set_value_at cs i new)
+classes_kept names cs i old new more at methods named added =
+    let here = entry_at cs i old at in
+    let all = subst (EntryNamed names) here.is (named i (here.key, old) here.within) in
+    let kept : MethodsNamed names new.items = All-same (λ (m : Method). m.name.0 < length names) new.items (old.items ++ more) methods (All-append (λ (m : Method). m.name.0 < length names) old.items more all.1 added) in
+    All-written (EntryNamed names) cs i new (λ c h. (h.0, kept)) named

@@ -1,10 +1,10 @@
 -- What expressions and their ends stand for.
-use Rattle.std.specs.Prelude.{Result, Ok, Err}
-use Rattle.std.specs.Borrow.{Bor}
+use Rattle.std.specs.Prelude.{List, Result, Ok, Err}
 use Rattle.zw_def_world.specs.ClassFile as class
 use Rattle.zw_def_world.specs.Evaluation as defined
-use Rattle.zw_run.specs.Seen.{class_seen}
-use Rattle.zw_run.specs.declared.class_file.ClassFile.{ClassFile}
+use Rattle.zw_def.specs.Text.{Text}
+use Rattle.zw_run.specs.Table.{open_seen}
+use Rattle.zw_run.specs.declared.table.Class.{Class as Open}
 use Rattle.zw_run.specs.declared.expression.Expression.{Expression}
 use Rattle.zw_run.specs.declared.expression.Expression.TheVariants.{Integer, Constant, Call}
 use Rattle.zw_run.specs.declared.expression.Value.{Value}
@@ -27,6 +27,6 @@ ending_seen (NoConstant name) = defined.no_constant name.now
 ending_seen (NoMethod method name) = defined.no_method method.now name.now
 ending_seen (NotDefined path name) = defined.not_defined path.now name.now
 
-abbrev pub answer_seen : Result (Bor ClassFile) Ending → Result class.ClassFile defined.Ending
-answer_seen (Ok c) = Ok (class_seen c.now)
-answer_seen (Err ending) = Err (ending_seen ending)
+abbrev pub answer_seen : List Text → Result Open Ending → Result class.ClassFile defined.Ending
+answer_seen names (Ok c) = Ok (open_seen names c)
+answer_seen names (Err ending) = Err (ending_seen ending)

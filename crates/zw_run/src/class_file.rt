@@ -1,25 +1,27 @@
 // The reader of class files.
-ghost use Rattle.std.specs.Prelude.{◌≡◌, ℕ, option_map, map, IfOk, string_bytes, codes, if◌then◌else◌, Some, None};
+ghost use Rattle.std.specs.Prelude.{◌≡◌, ◌<◌, ℕ, option_map, map, length, slice_get, IfOk, IfSome, codes, if◌then◌else◌, Some, None};
 ghost use Rattle.std.specs.Str.{IsUtf8, bytes_eq};
 ghost use Rattle.zw_def.specs.Text.{after_prefix, pieces};
 ghost use Rattle.zw_def_world.specs.ClassFile.{integer_of, unindented, method_of, methods_of, class_of_lines, before_last_line_end, class_file};
-ghost use Rattle.zw_run.specs.Seen.{method_seen, class_seen, lines_seen};
+ghost use Rattle.zw_names.specs.Names.{OnlyGrows};
+ghost use Rattle.zw_run.specs.Seen.{method_seen, class_seen, lines_seen, MethodsNamed, ClassNamed};
 ghost use Rattle.zw_run.specs.Lines.{is_last_end};
 
-use crate::words::{is_class, is_integer, is_method, trimmed};
+use crate::words::{Words, is_integer, trimmed};
 use std::alloc::{AllocError, Global};
+use zw_names::{Name, Names};
 
 /// A method that answers an integer.
 #[derive(Drop)]
 pub struct Method {
-    pub name: String,
+    pub name: Name,
     pub value: i64,
 }
 
 /// A class that a file defines, with its methods in their order.
 #[derive(Drop)]
 pub struct ClassFile {
-    pub name: String,
+    pub name: Name,
     pub methods: Vec<Method>,
 }
 
@@ -40,21 +42,16 @@ fn after<'a>(line: &'a [u8], prefix: &[u8]) -> Option<&'a [u8]>
     line.strip_prefix(prefix)
 }
 
-fn text_of(alloc: Global, word: &[u8]) -> Result<String, AllocError>
-    requires { IsUtf8 word.now }
-    ensures { IfOk result (λ text. string_bytes text ≡ word.now) }
-{
-    let text = std::str::from_utf8(word).unwrap();
-    String::from_str(alloc, text)
-}
-
 fn method_from(
-    alloc: Global,
+    words: &Words,
+    names: &mut Names,
     head: &[u8],
     value: &[u8],
     last: &[u8],
 ) -> Result<Option<Method>, AllocError>
-    ensures { IfOk result (λ m. option_map method_seen m ≡ method_of head.now value.now last.now) }
+    ensures told { IfOk result (λ m. option_map (method_seen names.new) m ≡ method_of head.now value.now last.now) }
+    ensures named { IfOk result (λ m. IfSome m (λ m. m.name.0 < length names.new)) }
+    ensures grows { OnlyGrows names.old names.new }
 {
     let Some(name) = after(head, b"def self.".as_slice()) else {
         return Ok(None);
@@ -62,21 +59,31 @@ fn method_from(
     let Some(value) = integer(value) else {
         return Ok(None);
     };
-    if !is_method(name) || last != b"end".as_slice() {
+    if last != b"end".as_slice() {
         return Ok(None);
     }
-    let name = text_of(alloc, name)?;
+    let Some(name) = words.method_name(name) else {
+        return Ok(None);
+    };
+    let name = names.intern(name)?;
     Ok(Some(Method { name, value }))
 }
 
 // The methods, up to the last `end`.
-fn methods(alloc: Global, lines: &[&[u8]]) -> Result<Option<Vec<Method>>, AllocError>
-    ensures { IfOk result (λ o. option_map (λ v. map method_seen v.items) o ≡ methods_of (lines_seen lines.now)) }
+fn methods(
+    alloc: Global,
+    words: &Words,
+    names: &mut Names,
+    lines: &[&[u8]],
+) -> Result<Option<Vec<Method>>, AllocError>
+    ensures told { IfOk result (λ o. option_map (λ v. map (method_seen names.new) v.items) o ≡ methods_of (lines_seen lines.now)) }
+    ensures named { IfOk result (λ o. IfSome o (λ v. MethodsNamed names.new v.items)) }
+    ensures grows { OnlyGrows names.old names.new }
 {
     let mut found = Vec::new(alloc);
     let mut at = 0;
     'methods: while at + 2 < lines.len() {
-        match method_from(alloc, lines[at], lines[at + 1], lines[at + 2])? {
+        match method_from(words, names, lines[at], lines[at + 1], lines[at + 2])? {
             None => return Ok(None),
             Some(method) => found.push(method)?,
         }
@@ -108,8 +115,15 @@ fn lines_of<'a>(alloc: Global, body: &'a [u8]) -> Result<Vec<&'a [u8]>, AllocErr
         .collect(alloc)
 }
 
-fn class_of(alloc: Global, lines: &[&[u8]]) -> Result<Option<ClassFile>, AllocError>
-    ensures { IfOk result (λ o. option_map class_seen o ≡ class_of_lines (lines_seen lines.now)) }
+fn class_of(
+    alloc: Global,
+    words: &Words,
+    names: &mut Names,
+    lines: &[&[u8]],
+) -> Result<Option<ClassFile>, AllocError>
+    ensures told { IfOk result (λ o. option_map (class_seen names.new) o ≡ class_of_lines (lines_seen lines.now)) }
+    ensures named { IfOk result (λ o. IfSome o (ClassNamed names.new)) }
+    ensures grows { OnlyGrows names.old names.new }
 {
     let Some((first, rest)) = lines.split_first() else {
         return Ok(None);
@@ -117,14 +131,14 @@ fn class_of(alloc: Global, lines: &[&[u8]]) -> Result<Option<ClassFile>, AllocEr
     let Some(name) = after(first, b"class ".as_slice()) else {
         return Ok(None);
     };
-    if !is_class(name) {
-        return Ok(None);
-    }
-    let Some(methods) = methods(alloc, rest)? else {
+    let Some(name) = words.class_name(name) else {
         return Ok(None);
     };
-    let name = text_of(alloc, name)?;
-    Ok(Some(ClassFile { name, methods }))
+    let name = names.intern(name)?;
+    match methods(alloc, words, names, rest)? {
+        None => Ok(None),
+        Some(methods) => Ok(Some(ClassFile { name, methods })),
+    }
 }
 
 fn body_of(text: &[u8]) -> Option<&[u8]>
@@ -133,15 +147,22 @@ fn body_of(text: &[u8]) -> Option<&[u8]>
     text.strip_suffix(b"\n".as_slice())
 }
 
-/// The class file that a text is, if it is one.
-pub fn read(alloc: Global, text: &[u8]) -> Result<Option<ClassFile>, AllocError>
-    ensures { IfOk result (λ o. option_map class_seen o ≡ class_file text.now) }
+/// The class file that a text is, if it is one. Its names are made; where the text is none, some may be.
+pub fn read(
+    alloc: Global,
+    words: &Words,
+    names: &mut Names,
+    text: &[u8],
+) -> Result<Option<ClassFile>, AllocError>
+    ensures told { IfOk result (λ o. option_map (class_seen names.new) o ≡ class_file text.now) }
+    ensures named { IfOk result (λ o. IfSome o (ClassNamed names.new)) }
+    ensures grows { OnlyGrows names.old names.new }
 {
     match body_of(text) {
         None => Ok(None),
         Some(body) => {
             let lines = lines_of(alloc, body)?;
-            class_of(alloc, &lines)
+            class_of(alloc, words, names, &lines)
         }
     }
 }

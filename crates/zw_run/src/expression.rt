@@ -4,7 +4,7 @@ ghost use Rattle.zw_def_world.specs.Evaluation.{expression_of, constant_of, call
 ghost use Rattle.zw_run.specs.Expressions.{expression_seen, ending_seen};
 
 use crate::class_file::integer;
-use crate::words::{is_class, is_method};
+use crate::words::Words;
 use std::alloc::{AllocError, Global};
 use zw_path::Path;
 
@@ -42,44 +42,38 @@ fn dot(expression: &[u8]) -> Option<usize>
     expression.iter().position(|b| *b == b'.')
 }
 
-fn call_from<'a>(class_name: &'a [u8], method: &'a [u8]) -> Option<Expression<'a>>
+fn call_from<'a>(words: &Words, class_name: &'a [u8], method: &'a [u8]) -> Option<Expression<'a>>
     ensures { option_map expression_seen result ≡ call_by class_name.now method.now }
 {
-    if !is_class(class_name) || !is_method(method) {
-        return None;
-    }
-    let class_name = std::str::from_utf8(class_name).unwrap();
-    let method = std::str::from_utf8(method).unwrap();
+    let class_name = words.class_name(class_name)?;
+    let method = words.method_name(method)?;
     Some(Expression::Call(class_name, method))
 }
 
-fn call(expression: &[u8]) -> Option<Expression<'_>>
+fn call<'a>(words: &Words, expression: &'a [u8]) -> Option<Expression<'a>>
     ensures { option_map expression_seen result ≡ call_of expression.now }
 {
     let place = dot(expression)?;
-    call_from(&expression[..place], &expression[place + 1..])
+    call_from(words, &expression[..place], &expression[place + 1..])
 }
 
-fn constant(expression: &[u8]) -> Option<Expression<'_>>
+fn constant<'a>(words: &Words, expression: &'a [u8]) -> Option<Expression<'a>>
     ensures { option_map expression_seen result ≡ constant_of expression.now }
 {
-    if !is_class(expression) {
-        return None;
-    }
-    let name = std::str::from_utf8(expression).unwrap();
+    let name = words.class_name(expression)?;
     Some(Expression::Constant(name))
 }
 
 /// The expression that a text is, if it is one.
-pub fn read(expression: &[u8]) -> Option<Expression<'_>>
+pub fn read<'a>(words: &Words, expression: &'a [u8]) -> Option<Expression<'a>>
     ensures { option_map expression_seen result ≡ expression_of expression.now }
 {
     if let Some(number) = integer(expression) {
         return Some(Expression::Integer(number));
     }
-    match constant(expression) {
+    match constant(words, expression) {
         Some(constant) => Some(constant),
-        None => call(expression),
+        None => call(words, expression),
     }
 }
 

@@ -1,18 +1,21 @@
 // Sessions.
 ghost use Rattle.std.specs.Prelude.{◌≡◌, IfOk, IfErr, option_map, string_bytes};
-ghost use Rattle.zw_def_world.specs.Evaluation.{World, expression_of, called};
+ghost use Rattle.zw_def_world.specs.Evaluation.{World, world_at, expression_of, called};
 ghost use Rattle.zw_run.specs.Expressions.{expression_seen, ending_seen, answer_seen};
-ghost use Rattle.zw_run.specs.Seen.{class_seen};
+ghost use Rattle.zw_run.specs.Seen.{MethodsNamed};
+ghost use Rattle.zw_run.specs.Table.{classes_seen, open_seen, ClassesNamed};
 ghost use Rattle.zw_run.specs.Held.{idle_file, after_load, file_used, after, answer_in, ending_in};
 ghost use Rattle.zw_run.specs.World.{StandsFor, RunsTo};
-ghost use Rattle.zw_run.specs.Session.{Refuses, world_at};
+ghost use Rattle.zw_run.specs.Session.{Refuses};
 
-use crate::class_file::ClassFile;
 use crate::expression::{self, Ending, Expression, Value};
-use crate::keys::{self, Key, has_key, names_of, take_file};
-use crate::table::{class_of, open, value_of};
+use crate::keys::{Keys, make_names, take_file, take_in};
+use crate::table::{Class, Classes, class_of, open, value_of};
+use crate::words::Words;
+use indexmap::IndexMap;
 use std::alloc::{AllocError, AllocFailed, Global};
 use std::marker::Model;
+use zw_names::Names;
 use zw_path::Path;
 use zw_tree::Tree;
 
@@ -46,30 +49,53 @@ impl<T: Drop> From<AllocFailed<T>> for SessionFault {
     }
 }
 
-/// The constants of a tree. A clause sees what a session holds: its keys, and the classes that are set in Object.
+/// The constants of a tree. A clause sees what a session holds: its keys, and the classes that are set in Object, with the
+/// texts of their names.
 #[derive(Drop)]
 pub struct Session {
-    keys: Vec<Key>,
-    table: Vec<ClassFile>,
+    words: Words,
+    names: Names,
+    keys: Keys,
+    classes: Classes,
 }
 
 impl Model for Session {
-    ghost use Rattle.std.specs.Prelude.{map};
     ghost use Rattle.zw_run.specs.Held.{Held};
-    ghost use Rattle.zw_run.specs.Seen.{class_seen};
-    ghost use Rattle.zw_run.specs.Keys.{key_seen};
+    ghost use Rattle.zw_run.specs.Keys.{keys_seen, KeysNamed};
+    ghost use Rattle.zw_run.specs.Table.{classes_seen, ClassesNamed};
 
     ghost Value = { Held };
 
-    ghost view = { λ s. record { keys = map key_seen s.keys.items; table = map class_seen s.table.items } };
+    ghost view = { λ s. record { keys = keys_seen s.names s.keys.entries; table = classes_seen s.names s.classes.entries } };
+
+    ghost invariant = { λ s. KeysNamed s.names s.keys.entries × ClassesNamed s.names s.classes.entries };
 }
 
-fn ending_of_call<'a>(class: &'a ClassFile, method: &'a str) -> Ending<'a>
-    ensures { ending_seen result ≡ called method.now (class_seen class.now) }
+// The class of a constant, after the file at the path, if there is one, was evaluated for it.
+fn constant<'a>(
+    names: &'a Names,
+    classes: &'a Classes,
+    path: Option<&'a Path>,
+    name: &'a str,
+) -> Result<Class<'a>, Ending<'a>>
+    requires { ClassesNamed names.now classes.now.entries }
+    ensures told { answer_seen names.now result ≡ answer_in (classes_seen names.now classes.now.entries) (option_map (λ p. p.now) path.entry) name.now }
+    ensures named { IfOk result (λ c. MethodsNamed names.now c.methods.now) }
 {
-    match value_of(class, method) {
+    match (class_of(names, classes, name), path) {
+        (Some(class), _) => Ok(class),
+        (None, Some(path)) => Err(Ending::NotDefined(path, name)),
+        (None, None) => Err(Ending::NoConstant(name)),
+    }
+}
+
+fn ending_of_call<'a>(names: &Names, class: Class<'a>, method: &'a str) -> Ending<'a>
+    requires { MethodsNamed names.now class.methods.now }
+    ensures { ending_seen result ≡ called method.now (open_seen names.now class.entry) }
+{
+    match value_of(names, class.methods, method) {
         Some(value) => Ending::Gave(Value::Number(value)),
-        None => Ending::NoMethod(method, &class.name),
+        None => Ending::NoMethod(method, class.name),
     }
 }
 
@@ -79,19 +105,26 @@ impl Session {
         ensures ok { IfOk result (StandsFor (world_at root.now tree.now)) }
         ensures refused { IfErr result (λ fault. Refuses fault root.now tree.now) }
     {
-        let names = names_of(alloc, root, tree.files())?;
-        let mut keys: Vec<Key> = Vec::new(alloc);
+        let words = Words::new();
+        let mut names = Names::new(alloc)?;
+        make_names(alloc, &mut names, root, tree.files())?;
+        let expected = names.len();
+        let mut keys = IndexMap::new(alloc);
         for file in tree.files() {
             if !file.path.is_below(root) {
                 continue;
             }
-            match keys::read(alloc, root, &names, file)? {
-                Some(key) if !has_key(&keys, &key.name) => keys.push(key)?,
-                _ => return Err(SessionFault::NotBuilt(file.path.copy(alloc)?)),
+            if !take_in(alloc, &words, &mut names, expected, root, &mut keys, file)? {
+                return Err(SessionFault::NotBuilt(file.path.copy(alloc)?));
             }
         }
-        let table = Vec::new(alloc);
-        Ok(Session { keys, table })
+        let classes = IndexMap::new(alloc);
+        Ok(Session {
+            words,
+            names,
+            keys,
+            classes,
+        })
     }
 
     // Evaluates the file that is expected to define the constant, if it was not evaluated yet, and gives its path.
@@ -99,10 +132,11 @@ impl Session {
         ensures path { IfOk result (λ path. path ≡ option_map (λ f. f.path) (idle_file name.now self.old.keys)) }
         ensures state { IfOk result (λ _. self.new ≡ after_load name.now self.old) }
     {
-        let Some(file) = take_file(&mut self.keys, name) else {
+        self.names.are_distinct();
+        let Some(file) = take_file(&self.names, &mut self.keys, name) else {
             return Ok(None);
         };
-        open(&mut self.table, file.class)?;
+        open(&mut self.classes, file.class)?;
         Ok(Some(file.path))
     }
 
@@ -118,33 +152,19 @@ impl Session {
         }
     }
 
-    // The class of a constant, after the file at the path, if there is one, was evaluated for it.
-    fn constant<'a>(
-        &'a self,
-        path: Option<&'a Path>,
-        name: &'a str,
-    ) -> Result<&'a ClassFile, Ending<'a>>
-        ensures { answer_seen result ≡ answer_in self.now.table (option_map (λ p. p.now) path.entry) name.now }
-    {
-        match (class_of(&self.table, name), path) {
-            (Some(class), _) => Ok(class),
-            (None, Some(path)) => Err(Ending::NotDefined(path, name)),
-            (None, None) => Err(Ending::NoConstant(name)),
-        }
-    }
-
     // How the expression ends, after the file at the path, if there is one, was evaluated for it.
     fn ending<'a>(&'a self, path: Option<&'a Path>, expression: Expression<'a>) -> Ending<'a>
         ensures { ending_seen result ≡ ending_in self.now.table (option_map (λ p. p.now) path.entry) (expression_seen expression.entry) }
     {
+        let Session { names, classes, .. } = self;
         match expression {
             Expression::Integer(number) => Ending::Gave(Value::Number(number)),
-            Expression::Constant(name) => match self.constant(path, name) {
-                Ok(class) => Ending::Gave(Value::Class(&class.name)),
+            Expression::Constant(name) => match constant(names, classes, path, name) {
+                Ok(class) => Ending::Gave(Value::Class(class.name)),
                 Err(ending) => ending,
             },
-            Expression::Call(name, method) => match self.constant(path, name) {
-                Ok(class) => ending_of_call(class, method),
+            Expression::Call(name, method) => match constant(names, classes, path, name) {
+                Ok(class) => ending_of_call(names, class, method),
                 Err(ending) => ending,
             },
         }
@@ -155,7 +175,7 @@ impl Session {
     pub fn run(&mut self, alloc: Global, expression: &[u8]) -> Result<Option<String>, AllocError>
         ensures { IfOk result (λ line. (world : World) → StandsFor world self.old → RunsTo world self.new (expression_of expression.now) (option_map string_bytes line)) }
     {
-        let Some(expression) = expression::read(expression) else {
+        let Some(expression) = expression::read(&self.words, expression) else {
             return Ok(None);
         };
         let path = self.prepare(expression)?;

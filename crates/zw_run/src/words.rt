@@ -1,23 +1,13 @@
 // The words of class files and of expressions.
-ghost use Rattle.std.specs.Prelude.{◌≡◌, ◌&&◌, ◌==◌, not};
+ghost use Rattle.std.specs.Prelude.{◌≡◌, ◌&&◌, ◌==◌, not, if◌then◌else◌, Some, None, option_map};
 ghost use Rattle.std.specs.Str.{bytes_eq};
 ghost use Rattle.std.specs.List.{list_all, list_any};
-ghost use Rattle.zw_def_world.specs.ClassFile.{is_blank, is_class_byte, is_class_word, is_class_name, is_method_byte, is_method_word, is_method_name, is_numeral, unindented};
-ghost use Rattle.zw_def_world.specs.Built.{is_core};
-ghost use Rattle.zw_def.specs.Map.{is_base_byte, is_plain_base};
-ghost use Rattle.zw_def.specs.Text.{is_digit, pieces};
+ghost use Rattle.std.specs.Map.{keys_of};
+ghost use Rattle.zw_def_world.specs.ClassFile.{is_blank, is_class_byte, is_class_word, is_class_name, is_method_name, is_numeral, unindented, is_core, core_names, reserved_method_names};
+ghost use Rattle.zw_def.specs.Text.{is_digit, is_plain_byte, is_plain_word, pieces};
 
-// Core classes and modules, and words in capitals that are no constants.
-const RESERVED_CLASS_NAMES: &str =
-    "ArgumentError Array BEGIN Class END Exception FalseClass FrozenError IndexError Integer Kernel LoadError Module NameError NilClass NoMethodError Object RangeError RuntimeError ScriptError StandardError String Symbol SyntaxError TrueClass TypeError ZeroDivisionError Zeitwerk";
-
-// Core classes and modules.
-const CORE_NAMES: &str =
-    "ArgumentError Array Class Exception FalseClass FrozenError IndexError Integer Kernel LoadError Module NameError NilClass NoMethodError Object RangeError RuntimeError ScriptError StandardError String Symbol SyntaxError TrueClass TypeError ZeroDivisionError Zeitwerk";
-
-// Keywords, words outside the profile, and methods that every class has.
-const RESERVED_METHOD_NAMES: &str =
-    "alias ancestors and attr_accessor attr_reader attr_writer begin break case class const_get def do else elsif end ensure extend false for freeze if in include initialize inspect module name new next nil not or private private_class_method public puts raise redo rescue retry return self super superclass then to_s true undef unless until when while yield";
+use std::marker::Model;
+use zw_table::{Table, table};
 
 fn is_class_part(b: u8) -> bool
     ensures { result ≡ is_class_byte b }
@@ -25,8 +15,8 @@ fn is_class_part(b: u8) -> bool
     b.is_ascii_uppercase() || b.is_ascii_lowercase() || b.is_ascii_digit() || b == b'_'
 }
 
-fn is_method_part(b: u8) -> bool
-    ensures { result ≡ is_method_byte b }
+fn is_plain_part(b: u8) -> bool
+    ensures { result ≡ is_plain_byte b }
 {
     b.is_ascii_lowercase() || b.is_ascii_digit() || b == b'_'
 }
@@ -37,10 +27,11 @@ fn are_class_parts(bytes: &[u8]) -> bool
     bytes.iter().all(|b| is_class_part(*b))
 }
 
-fn are_method_parts(bytes: &[u8]) -> bool
-    ensures { result ≡ list_all is_method_byte bytes.now }
+/// Whether all bytes are `a` to `z`, digits or `_`.
+pub fn are_plain(bytes: &[u8]) -> bool
+    ensures { result ≡ list_all is_plain_byte bytes.now }
 {
-    bytes.iter().all(|b| is_method_part(*b))
+    bytes.iter().all(|b| is_plain_part(*b))
 }
 
 fn are_digits(bytes: &[u8]) -> bool
@@ -58,47 +49,184 @@ fn is_class_form(word: &[u8]) -> bool
     }
 }
 
-fn is_method_form(word: &[u8]) -> bool
-    ensures { result ≡ is_method_word word.now }
+/// Whether a word is of such bytes, and begins with `a` to `z`.
+pub fn is_plain(word: &[u8]) -> bool
+    ensures { result ≡ is_plain_word word.now }
 {
     match word.split_first() {
         None => false,
-        Some((first, rest)) => first.is_ascii_lowercase() && are_method_parts(rest),
+        Some((first, rest)) => first.is_ascii_lowercase() && are_plain(rest),
     }
 }
 
-/// Whether a word is one of the words of a text that single spaces part.
-pub fn is_among(word: &[u8], words: &str) -> bool
-    ensures { result ≡ list_any (bytes_eq word.now) (pieces 32 words.now) }
-{
-    words
-        .as_bytes()
-        .split(|b| *b == b' ')
-        .any(|other| word == other)
+/// The words that are the names of no class or of no method that a file may define.
+#[derive(Drop)]
+pub struct Words {
+    core: Table<(), 26>,
+    methods: Table<(), 54>,
 }
 
-/// Whether a word is the name of a class that a file may define.
-#[tactic(auto, unfolding(zw_def_world::specs::ClassFile::reserved_class_names))]
-pub fn is_class(word: &[u8]) -> bool
-    ensures { result ≡ is_class_name word.now }
-{
-    is_class_form(word) && !is_among(word, RESERVED_CLASS_NAMES)
+impl Model for Words {
+    ghost use Rattle.std.specs.Prelude.{◌≡◌};
+    ghost use Rattle.std.specs.Map.{keys_of};
+    ghost use Rattle.zw_def.specs.Text.{pieces};
+    ghost use Rattle.zw_def_world.specs.ClassFile.{core_names, reserved_method_names};
+
+    ghost Value = { Unit {0} };
+
+    ghost view = { λ _. tt };
+
+    ghost invariant = { λ s. (keys_of s.core ≡ pieces 32 core_names) × (keys_of s.methods ≡ pieces 32 reserved_method_names) };
 }
 
-/// Whether a word is the name of a method that a file may define.
+// Core classes and modules.
+#[tactic(auto, unfolding(zw_def_world::specs::ClassFile::core_names))]
+fn core_names() -> Table<(), 26>
+    ensures { keys_of result ≡ pieces 32 core_names }
+{
+    let names = table!(
+        "ArgumentError" => (),
+        "Array" => (),
+        "Class" => (),
+        "Exception" => (),
+        "FalseClass" => (),
+        "FrozenError" => (),
+        "IndexError" => (),
+        "Integer" => (),
+        "Kernel" => (),
+        "LoadError" => (),
+        "Module" => (),
+        "NameError" => (),
+        "NilClass" => (),
+        "NoMethodError" => (),
+        "Object" => (),
+        "RangeError" => (),
+        "RuntimeError" => (),
+        "ScriptError" => (),
+        "StandardError" => (),
+        "String" => (),
+        "Symbol" => (),
+        "SyntaxError" => (),
+        "TrueClass" => (),
+        "TypeError" => (),
+        "Zeitwerk" => (),
+        "ZeroDivisionError" => (),
+    );
+    names.unwrap()
+}
+
+// Keywords, words outside the profile, and methods that every class has.
 #[tactic(auto, unfolding(zw_def_world::specs::ClassFile::reserved_method_names))]
-pub fn is_method(word: &[u8]) -> bool
-    ensures { result ≡ is_method_name word.now }
+fn reserved_method_names() -> Table<(), 54>
+    ensures { keys_of result ≡ pieces 32 reserved_method_names }
 {
-    is_method_form(word) && !is_among(word, RESERVED_METHOD_NAMES)
+    let names = table!(
+        "alias" => (),
+        "ancestors" => (),
+        "and" => (),
+        "attr_accessor" => (),
+        "attr_reader" => (),
+        "attr_writer" => (),
+        "begin" => (),
+        "break" => (),
+        "case" => (),
+        "class" => (),
+        "const_get" => (),
+        "def" => (),
+        "do" => (),
+        "else" => (),
+        "elsif" => (),
+        "end" => (),
+        "ensure" => (),
+        "extend" => (),
+        "false" => (),
+        "for" => (),
+        "freeze" => (),
+        "if" => (),
+        "in" => (),
+        "include" => (),
+        "initialize" => (),
+        "inspect" => (),
+        "module" => (),
+        "name" => (),
+        "new" => (),
+        "next" => (),
+        "nil" => (),
+        "not" => (),
+        "or" => (),
+        "private" => (),
+        "private_class_method" => (),
+        "public" => (),
+        "puts" => (),
+        "raise" => (),
+        "redo" => (),
+        "rescue" => (),
+        "retry" => (),
+        "return" => (),
+        "self" => (),
+        "super" => (),
+        "superclass" => (),
+        "then" => (),
+        "to_s" => (),
+        "true" => (),
+        "undef" => (),
+        "unless" => (),
+        "until" => (),
+        "when" => (),
+        "while" => (),
+        "yield" => (),
+    );
+    names.unwrap()
 }
 
-/// Whether a word is the name of a core class or module.
-#[tactic(auto, unfolding(zw_def_world::specs::Built::core_names))]
-pub fn is_core(word: &[u8]) -> bool
-    ensures { result ≡ is_core word.now }
-{
-    is_among(word, CORE_NAMES)
+impl Words {
+    pub fn new() -> Words {
+        Words {
+            core: core_names(),
+            methods: reserved_method_names(),
+        }
+    }
+
+    /// Whether a word is the name of a core class or module.
+    pub fn is_core(&self, word: &str) -> bool
+        ensures { result ≡ is_core word.now }
+    {
+        self.core.contains_key(word)
+    }
+
+    fn is_reserved_method(&self, word: &str) -> bool
+        ensures { result ≡ list_any (bytes_eq word.now) (pieces 32 reserved_method_names) }
+    {
+        self.methods.contains_key(word)
+    }
+
+    /// The text of a word that is the name of a class that a file may define.
+    pub fn class_name<'a>(&self, word: &'a [u8]) -> Option<&'a str>
+        ensures { option_map (λ text. text.now) result ≡ (if is_class_name word.now then Some word.now else None) }
+    {
+        if !is_class_form(word) {
+            return None;
+        }
+        let text = std::str::from_utf8(word).unwrap();
+        if self.is_core(text) || text == "BEGIN" || text == "END" {
+            return None;
+        }
+        Some(text)
+    }
+
+    /// The text of a word that is the name of a method that a file may define.
+    pub fn method_name<'a>(&self, word: &'a [u8]) -> Option<&'a str>
+        ensures { option_map (λ text. text.now) result ≡ (if is_method_name word.now then Some word.now else None) }
+    {
+        if !is_plain(word) {
+            return None;
+        }
+        let text = std::str::from_utf8(word).unwrap();
+        if self.is_reserved_method(text) {
+            return None;
+        }
+        Some(text)
+    }
 }
 
 fn is_many_digits(first: u8, rest: &[u8]) -> bool
@@ -120,28 +248,6 @@ pub fn is_integer(word: &[u8]) -> bool
                 is_many_digits(*first, rest)
             }
         }
-    }
-}
-
-fn is_base_part(b: u8) -> bool
-    ensures { result ≡ is_base_byte b }
-{
-    b.is_ascii_lowercase() || b.is_ascii_digit() || b == b'_'
-}
-
-fn are_base_parts(bytes: &[u8]) -> bool
-    ensures { result ≡ list_all is_base_byte bytes.now }
-{
-    bytes.iter().all(|b| is_base_part(*b))
-}
-
-/// Whether a base name is one that is carried out so far.
-pub fn is_base(word: &[u8]) -> bool
-    ensures { result ≡ is_plain_base word.now }
-{
-    match word.split_first() {
-        None => false,
-        Some((first, rest)) => first.is_ascii_lowercase() && are_base_parts(rest),
     }
 }
 

@@ -1,7 +1,7 @@
 -- Look-ups in rows of keys that rise.
-use Rattle.std.proofs.Common.{◌≡◌, ℕ, zero, suc, ◌<◌, Bool, true, false, List, [], ◌∷◌, length, get_or, Option, Some, None, slice_get, refl, sym, ap, ◌∙◌, arith, cond, map}
-use Rattle.std.specs.List.{zip}
-use Rattle.std.specs.Map.{lookup}
+use Rattle.std.proofs.Common.{◌≡◌, ℕ, zero, suc, ◌<◌, Bool, true, false, List, [], ◌∷◌, length, get_or, Option, Some, None, slice_get, refl, sym, ap, ◌∙◌, arith, cond, map, is_some, ◌||◌}
+use Rattle.std.specs.List.{zip, list_any}
+use Rattle.std.specs.Map.{lookup, keys_of}
 use Rattle.std.specs.Str.{bytes_eq}
 use Rattle.std.proofs.lemmas.Slice.Eq.{bytes_eq-Decides}
 use Rattle.zw_def.specs.Text.{Text}
@@ -123,3 +123,19 @@ module _ {V : Type 0} where
   pub missed_in : (s ks : List (Bor Text)) (vs : List V) (rows : List (Text × V)) (key : Text) (i : ℕ) → s ≡ ks → zip (map (λ k. k.now) ks) vs ≡ rows → rises (map (λ k. k.now) ks) ≡ true → (IsNonDecreasingBy (λ (y : Bor Text). ordering_index (slice_cmp nat_cmp y.now key)) s → IsPartitionPoint (λ (y : Bor Text). slice_cmp nat_cmp y.now key ≡ Less) (λ (y : Bor Text). slice_cmp nat_cmp y.now key ≡ Greater) s i) → None ≡ lookup (bytes_eq key) rows
   missed_in s ks vs rows key i e v up parts =
       missed ks vs key i up (subst (λ (xs : List (Bor Text)). IsNonDecreasingBy (λ (y : Bor Text). ordering_index (slice_cmp nat_cmp y.now key)) xs → IsPartitionPoint (λ (y : Bor Text). slice_cmp nat_cmp y.now key ≡ Less) (λ (y : Bor Text). slice_cmp nat_cmp y.now key ≡ Greater) xs i) e parts) ∙ ap (lookup (bytes_eq key)) v
+
+-- ---- whether a row has a key
+
+looked : {V : Type 0} (test : Text → Bool) (rows : List (Text × V)) → is_some (lookup test rows) ≡ list_any test (keys_of rows)
+looked test [] = refl
+looked test (row ∷ rows) = by (test row.0) (looked test rows) where
+  by : (b : Bool) → is_some (lookup test rows) ≡ list_any test (keys_of rows) → is_some (cond b (Some row.1) (lookup test rows)) ≡ (b || list_any test (keys_of rows))
+  by true rest = refl
+  by false rest = rest
+
+some_lent : {V : Type 0} (o : Option (Bor V)) → is_some (option_map (λ x. x.now) o) ≡ is_some o
+some_lent None = refl
+some_lent (Some x) = refl
+
+pub has_row : {V : Type 0} (test : Text → Bool) (rows : List (Text × V)) (o : Option (Bor V)) → option_map (λ x. x.now) o ≡ lookup test rows → is_some o ≡ list_any test (keys_of rows)
+has_row test rows o e = sym (some_lent o) ∙ ap is_some e ∙ looked test rows

@@ -4,8 +4,8 @@
 #![tactic(auto)]
 
 ghost use Rattle.std.specs.Prelude.{◌≡◌, ◌↔◌, IsSome, IfSome, IsTrue, option_copied};
-ghost use Rattle.std.specs.List.{zip};
-ghost use Rattle.std.specs.Map.{lookup};
+ghost use Rattle.std.specs.List.{zip, list_any};
+ghost use Rattle.std.specs.Map.{lookup, keys_of};
 ghost use Rattle.std.specs.Str.{bytes_eq};
 ghost use Rattle.zw_table.specs.Words.{words, tells_keys};
 
@@ -63,5 +63,12 @@ impl<V, const N: usize> Table<V, N> {
             Ok(row) => self.values.as_slice().get(row),
             Err(_) => None,
         }
+    }
+
+    /// Whether a row has the key.
+    pub fn contains_key(&self, key: &str) -> bool
+        ensures { result ≡ list_any (bytes_eq key.now) (keys_of self.now) }
+    {
+        self.find(key).is_some()
     }
 }

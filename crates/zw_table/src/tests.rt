@@ -45,6 +45,8 @@ fn a_table_finds_its_rows(rt: HostRuntime) -> Result<(), Fail> {
             .and_then(|table| table.find(key))
             .map_or(0, |word| sign_of(*word, b'a'));
         assert_eq!(rt; found, sign, "at {key}");
+        let is_there = words.as_ref().is_some_and(|table| table.contains_key(key));
+        assert_eq!(rt; is_there, sign != 0, "at {key}");
     }
     Ok(())
 }

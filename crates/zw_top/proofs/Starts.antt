@@ -1,5 +1,5 @@
 -- The steps of a start.
-use Rattle.std.proofs.Common.{◌≡◌, ◌≤◌, ◌<◌, ◌++◌, ℕ, true, false, List, [], ◌∷◌, Option, Some, None, Result, Ok, Err, IfSome, length, nat_lt, cond, refl, sym, ap, subst, ◌∙◌, arith, rules, append_assoc, append-nil, length-append, inl, inr}
+use Rattle.std.proofs.Common.{◌≡◌, ◌≤◌, ◌<◌, ◌++◌, true, false, List, [], ◌∷◌, Option, Some, None, Result, Ok, Err, IfSome, length, nat_lt, cond, refl, sym, ap, subst, ◌∙◌, arith, rules, append_assoc, append-nil, length-append, inl, inr}
 use Rattle.zw_def.specs.Text.{Text}
 use Rattle.zw_def.specs.Path.{Path, path_of}
 use Rattle.zw_path.specs.Fault.{path_fault}
@@ -9,12 +9,13 @@ use Rattle.std.specs.Str.{IsUtf8, is_utf8}
 use Rattle.std.proofs.lemmas.Bool.{cases_Bool}
 use Rattle.std.proofs.lemmas.Bool.Decides.{nat_tests}
 use Rattle.std.proofs.lemmas.Str.{IsUtf8-from_ascii, IsUtf8-from_is_utf8, is_utf8-from_IsUtf8}
+use Rattle.zw_def.specs.Text.{is_plain_byte}
 use Rattle.zw_def.specs.Tree.{Tree}
 use Rattle.zw_def.specs.Folder.{Listing, unlisted}
-use Rattle.zw_def_session.specs.Start.{Start, is_root_byte, is_root_name, listed, long_listing, most_listed, with_text, with_listed}
+use Rattle.zw_def_session.specs.Start.{Start, is_root_name, listed, long_listing, most_listed, with_text, with_listed}
 use Rattle.zw_io.specs.FolderAnswers.{ListsIfTold}
 use Rattle.zw_io.proofs.FolderLemmas.{lists_path}
-use Rattle.zw_run.proofs.Ascii.{all_ascii}
+use Rattle.zw_run.proofs.Ascii.{all_ascii, plain_below}
 use Rattle.zw_top.specs.Starts.{ListsOne, MovesOn, GivesTree}
 use Rattle.zw_top.specs.declared.refusal.Stop.{Stop}
 
@@ -30,11 +31,8 @@ no_path text fault has = path_by text fault (path_of text) refl has
 
 -- ---- the root's name
 
-root_byte_below : (b : ℕ) → is_root_byte b ≡ true → b < 128
-root_byte_below b h = grind (arith, nat_tests)
-
 pub root_name_utf8 : (name : Text) → is_root_name name ≡ true → IsUtf8 name
-root_name_utf8 name h = IsUtf8-from_ascii name (all_ascii is_root_byte root_byte_below name h)
+root_name_utf8 name h = IsUtf8-from_ascii name (all_ascii is_plain_byte plain_below name h)
 
 -- ---- the listing
 

@@ -1,16 +1,19 @@
 // The lines of the stream, read as commands.
 ghost use Rattle.std.specs.Prelude.{◌≡◌, IfOk, string_bytes, position};
 ghost use Rattle.std.specs.List.{list_all};
+ghost use Rattle.std.specs.Map.{keys_of};
 ghost use Rattle.std.specs.Str.Lines.{strip_carriage_return};
+ghost use Rattle.zw_def.specs.Text.{pieces};
 ghost use Rattle.zw_def_world.specs.ClassFile.{is_blank};
-ghost use Rattle.zw_def_session.specs.Command.{is_comment, is_command, is_space, first_word, rest_of, command_by, command_in, command_of_text};
+ghost use Rattle.zw_def_session.specs.Command.{command_words, is_comment, is_command, is_space, first_word, rest_of, command_by, command_in, command_of_text};
 ghost use Rattle.zw_def_session.specs.Output.{line_of_reason};
 ghost use Rattle.zw_top.specs.Commands.{command_seen, reason_seen};
 ghost use Rattle.zw_top.specs.Replies.{command_for};
 
 use std::alloc::{AllocError, Global};
+use std::marker::Model;
 use zw_io::LineEnd;
-use zw_run::words::is_among;
+use zw_table::{Table, table};
 
 /// Why a line is refused.
 #[derive(Clone, Copy, Debug, PartialEq, Eq)]
@@ -34,15 +37,63 @@ pub enum Command<'a> {
     Refused(Reason),
 }
 
-// The words of the commands.
-const COMMAND_WORDS: &str =
-    "check del eager eager_dir eager_ns end expect load map put reload run runs shadows";
+/// The words of the commands.
+#[derive(Drop)]
+pub struct Words {
+    words: Table<(), 14>,
+}
+
+impl Model for Words {
+    ghost use Rattle.std.specs.Prelude.{◌≡◌};
+    ghost use Rattle.std.specs.Map.{keys_of};
+    ghost use Rattle.zw_def.specs.Text.{pieces};
+    ghost use Rattle.zw_def_session.specs.Command.{command_words};
+
+    ghost Value = { Unit {0} };
+
+    ghost view = { λ _. tt };
+
+    ghost invariant = { λ s. keys_of s.words ≡ pieces 32 command_words };
+}
 
 #[tactic(auto, unfolding(zw_def_session::specs::Command::command_words))]
-fn is_known(word: &[u8]) -> bool
-    ensures { result ≡ is_command word.now }
+fn command_words() -> Table<(), 14>
+    ensures { keys_of result ≡ pieces 32 command_words }
 {
-    is_among(word, COMMAND_WORDS)
+    let words = table!(
+        "check" => (),
+        "del" => (),
+        "eager" => (),
+        "eager_dir" => (),
+        "eager_ns" => (),
+        "end" => (),
+        "expect" => (),
+        "load" => (),
+        "map" => (),
+        "put" => (),
+        "reload" => (),
+        "run" => (),
+        "runs" => (),
+        "shadows" => (),
+    );
+    words.unwrap()
+}
+
+impl Words {
+    pub fn new() -> Words {
+        Words {
+            words: command_words(),
+        }
+    }
+
+    fn has(&self, word: &[u8]) -> bool
+        ensures { result ≡ is_command word.now }
+    {
+        match std::str::from_utf8(word) {
+            Err(_) => false,
+            Ok(word) => self.words.contains_key(word),
+        }
+    }
 }
 
 // The line without a CR at its end.
@@ -94,7 +145,7 @@ fn past_word(line: &[u8]) -> &[u8]
     }
 }
 
-fn command_from<'a>(word: &[u8], rest: &'a [u8]) -> Command<'a>
+fn command_from<'a>(words: &Words, word: &[u8], rest: &'a [u8]) -> Command<'a>
     ensures { command_seen result ≡ command_by word.now rest.now }
 {
     if word == b"run".as_slice() {
@@ -106,33 +157,33 @@ fn command_from<'a>(word: &[u8], rest: &'a [u8]) -> Command<'a>
         }
         return Command::Refused(Reason::BadArgument);
     }
-    if is_known(word) {
+    if words.has(word) {
         return Command::Refused(Reason::NotBuilt);
     }
     Command::Refused(Reason::Unknown)
 }
 
-fn command_at(line: &[u8]) -> Command<'_>
+fn command_at<'a>(words: &Words, line: &'a [u8]) -> Command<'a>
     ensures { command_seen result ≡ command_in line.now }
 {
     if is_blank_line(line) {
         return Command::Nothing;
     }
-    command_from(word_of(line), past_word(line))
+    command_from(words, word_of(line), past_word(line))
 }
 
 // What a line that is not too long asks for.
-fn read_text(line: &[u8]) -> Command<'_>
+fn read_text<'a>(words: &Words, line: &'a [u8]) -> Command<'a>
     ensures { command_seen result ≡ command_of_text line.now }
 {
     match std::str::from_utf8(line) {
         Err(_) => Command::Refused(Reason::NotUtf8),
-        Ok(_) => command_at(without_return(line)),
+        Ok(_) => command_at(words, without_return(line)),
     }
 }
 
 /// What a line asks for, by how it ends: it is whole here, or the front of one that is too long.
-pub fn read(end: LineEnd, line: &[u8]) -> Command<'_>
+pub fn read<'a>(words: &Words, end: LineEnd, line: &'a [u8]) -> Command<'a>
     ensures { command_seen result ≡ command_for end line.now }
 {
     if is_remark(line) {
@@ -141,7 +192,7 @@ pub fn read(end: LineEnd, line: &[u8]) -> Command<'_>
     match end {
         LineEnd::End => Command::Nothing,
         LineEnd::TooLong => Command::Refused(Reason::TooLong),
-        LineEnd::Line => read_text(line),
+        LineEnd::Line => read_text(words, line),
     }
 }
 

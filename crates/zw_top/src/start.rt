@@ -3,7 +3,7 @@ ghost use Rattle.std.specs.Prelude.{◌≡◌, ◌≢◌, MatchBool, ℕ, List, 
 ghost use Rattle.std.specs.Option.{option_map};
 ghost use Rattle.zw_def.specs.Text.{after_prefix};
 ghost use Rattle.zw_def.specs.Path.{path_of};
-ghost use Rattle.zw_def_session.specs.Start.{configuration_path, configuration_by, configuration_text, root_name, root_text, root_of, is_root_name, is_root_byte, past_reloading, before_suffix, listed, taken_text, grown, grown_by, with_text, with_listed, mounted, tree_of, started_at, started, world_of, world_in, most_file_bytes};
+ghost use Rattle.zw_def_session.specs.Start.{configuration_path, configuration_by, configuration_text, root_name, root_text, root_of, root_at, is_root_name, past_reloading, before_suffix, listed, taken_text, grown, grown_by, with_text, with_listed, mounted, tree_of, started_at, started, world_of, world_in, most_file_bytes};
 ghost use Rattle.zw_top.specs.Refusals.{Gives, CountsStop};
 ghost use Rattle.zw_top.specs.Starts.{KeepsFolder, IsFault, IsFront, ReadsFile, MovesOn, ListsOne, texts_seen, GivesTree, GivesSession};
 
@@ -12,6 +12,7 @@ use crate::refusal::{Refusal, Stop};
 use std::alloc::{AllocError, Global};
 use zw_io::{Fail, Folder};
 use zw_path::{Path, PathFault};
+use zw_run::words::are_plain;
 use zw_run::{Session, SessionFault};
 use zw_tree::Tree;
 
@@ -104,16 +105,10 @@ fn configuration_in<F: Folder>(alloc: Global, folder: &mut F, path: &Path) -> Re
     }
 }
 
-fn is_root_part(b: u8) -> bool
-    ensures { result ≡ is_root_byte b }
-{
-    b.is_ascii_lowercase() || b.is_ascii_digit() || b == b'_'
-}
-
 fn is_root(name: &[u8]) -> bool
     ensures { result ≡ is_root_name name.now }
 {
-    name.iter().all(|b| is_root_part(*b))
+    are_plain(name)
 }
 
 fn after<'a>(text: &'a [u8], prefix: &[u8]) -> Option<&'a [u8]>
@@ -155,7 +150,7 @@ fn root_in(text: &[u8]) -> Option<&str>
     root_text(name)
 }
 
-fn root_at(alloc: Global, text: &[u8]) -> Result<Path, Stop>
+fn root_of(alloc: Global, text: &[u8]) -> Result<Path, Stop>
     ensures gives { Gives (λ path. path) result (root_of text.now) }
     ensures kept { KeepsFolder result }
 {
@@ -335,14 +330,26 @@ fn session_in<F: Folder>(
     alloc: Global,
     folder: &mut F,
     path: &Path,
-    root: &Path,
+    root: Path,
 ) -> Result<Session, Stop>
-    ensures told { IfSome (F.listing folder.old) (λ l. GivesSession result (world_in root.now path.now l)) }
+    ensures told { IfSome (F.listing folder.old) (λ l. GivesSession result (world_in root path.now l)) }
     ensures cause { CountsStop result (F.faults folder.old) (F.faults folder.new) }
 {
     match tree_in(alloc, folder, path) {
         Err(stop) => Err(stop),
-        Ok(tree) => session_at(alloc, root, &tree),
+        Ok(tree) => session_at(alloc, &root, &tree),
+    }
+}
+
+// The root that the configuration names.
+fn root_at<F: Folder>(alloc: Global, folder: &mut F, path: &Path) -> Result<Path, Stop>
+    ensures told { IfSome (F.listing folder.old) (λ l. Gives (λ root. root) result (root_at path.now l)) }
+    ensures same { F.listing folder.new ≡ F.listing folder.old }
+    ensures cause { CountsStop result (F.faults folder.old) (F.faults folder.new) }
+{
+    match configuration_in(alloc, folder, path) {
+        Err(stop) => Err(stop),
+        Ok(text) => root_of(alloc, &text),
     }
 }
 
@@ -350,12 +357,9 @@ fn session_by<F: Folder>(alloc: Global, folder: &mut F, path: &Path) -> Result<S
     ensures told { IfSome (F.listing folder.old) (λ l. GivesSession result (started_at path.now l)) }
     ensures cause { CountsStop result (F.faults folder.old) (F.faults folder.new) }
 {
-    match configuration_in(alloc, folder, path) {
+    match root_at(alloc, folder, path) {
         Err(stop) => Err(stop),
-        Ok(text) => match root_at(alloc, &text) {
-            Err(stop) => Err(stop),
-            Ok(root) => session_in(alloc, folder, path, &root),
-        },
+        Ok(root) => session_in(alloc, folder, path, root),
     }
 }
 

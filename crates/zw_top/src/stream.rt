@@ -9,7 +9,7 @@ ghost use Rattle.zw_top.specs.Commands.{command_seen, reason_seen};
 ghost use Rattle.zw_top.specs.Replies.{AnswersTo, PutsLine, CountsPut, Replies, CountsReply, CutsShort, CountsCut, Serves, CountsServed};
 
 use crate::Status;
-use crate::command::{self, Command, Reason};
+use crate::command::{self, Command, Reason, Words};
 use std::alloc::{AllocError, Global};
 use zw_io::{LineEnd, Lines, LinesFault, Out, Sink, Source};
 use zw_run::Session;
@@ -136,6 +136,7 @@ pub fn serve<S: Source, K: Sink>(
         Serves result world bytes (S.left source.new) (K.taken out.old.sink.now) (K.taken out.new.sink.now)) }
     ensures counts { CountsServed result (S.faults source.old) (S.faults source.new) (K.faults out.old.sink.now) (K.faults out.new.sink.now) }
 {
+    let words = Words::new();
     let mut current = session;
     let mut lines = Lines::new(source);
     let mut line = Vec::new(alloc);
@@ -146,7 +147,7 @@ pub fn serve<S: Source, K: Sink>(
                 if is_last(end) {
                     return Status::Done;
                 }
-                match reply(alloc, &mut current, out, command::read(end, &line)) {
+                match reply(alloc, &mut current, out, command::read(&words, end, &line)) {
                     Ok(()) => {}
                     Err(status) => return status,
                 }

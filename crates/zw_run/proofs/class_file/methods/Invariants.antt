@@ -1,13 +1,16 @@
-use Rattle.std.proofs.Common.{◌≡◌, ◌≤◌, ◌-◌, length, drop, map}
+use Rattle.std.proofs.Common.{◌≡◌, ◌≤◌, ◌-◌, length, drop}
 use Rattle.zw_def_world.specs.ClassFile.{methods_of}
-use Rattle.zw_run.specs.Seen.{method_seen, lines_seen}
+use Rattle.zw_names.specs.Names.{OnlyGrows}
+use Rattle.zw_run.specs.Seen.{methods_seen, lines_seen, MethodsNamed}
 use Rattle.zw_run.proofs.Methods.{with_front}
 use Rattle.zw_run.proofs.class_file.methods.Given as goal
 
 abbrev pub invariant-methods : goal.invariant-methods
 invariant-methods l = record {
   within : l.at ≤ length l.lines;
-  found : with_front (map method_seen l.found.items) (methods_of (lines_seen (drop l.at l.lines))) ≡ methods_of (lines_seen l.lines);
+  found : with_front (methods_seen l.names l.found.items) (methods_of (lines_seen (drop l.at l.lines))) ≡ methods_of (lines_seen l.lines);
+  named : MethodsNamed l.names l.found.items;
+  grows : OnlyGrows l.fn.names l.names;
 }
 
 abbrev pub decreases-methods : goal.decreases-methods

@@ -1,13 +1,11 @@
-use Rattle.std.proofs.Common.{string_bytes, rules, tests, ◌∙◌, sym}
-use Rattle.std.specs.Str.{bytes_eq}
-use Rattle.std.proofs.lemmas.Iterator.{YieldsList-from_slice}
-use Rattle.std.proofs.lemmas.Iterator.Search.{position_from_yields_List}
-use Rattle.zw_run.specs.Keys.{key_seen}
-use Rattle.zw_run.specs.declared.keys.Key.{Key}
-use Rattle.zw_run.proofs.Firsts.{position-map}
+use Rattle.std.proofs.Common.{◌∙◌, sym}
+use Rattle.zw_run.proofs.Looked.{key_place, key_nowhere}
 use Rattle.zw_run.proofs.keys.place_of.Goals as goal
+
+pub returns-in_err-name : goal.returns-in_err-name
+returns-in_err-name c =
+    c.from_residual.ensures ∙ sym (key_nowhere c.args.names.now c.args.name.now (sym c.in_err-name.ensures.found) c.args.keys.now.entries c.requires)
 
 pub returns : goal.returns
 returns c =
-    position_from_yields_List (λ (k : Key). bytes_eq (string_bytes k.name) c.args.name.now) _ _ c.position.result c.position.ensures.ran (YieldsList-from_slice c.args.keys.now c.iter.ensures.rest) (λ x b q k. search (rules, tests))
-    ∙ sym (position-map key_seen (λ k. bytes_eq k.name c.args.name.now) c.args.keys.now)
+    c.get_index_of.ensures.index ∙ key_place c.args.names.now c.in_ok-name.name.0 c.args.name.now c.in_ok-name.ensures.distinct c.in_ok-name.ensures.named c.args.keys.now.entries c.requires
