@@ -1,0 +1,10 @@
+pub mod Fronts
+pub mod Numbers
+pub mod Contents
+pub mod Codes
+pub mod Signs
+pub mod Places
+pub mod Sizes
+pub mod Scanned
+pub mod Settled
+pub mod Spans
