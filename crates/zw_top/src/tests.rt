@@ -390,22 +390,18 @@ fn folder_limits(rt: HostRuntime) -> Result<(), Fail> {
         (0, 1, 0, FULL + 1, "limit: file m/a000000.rb\n"),
         (0, 256, FULL, FULL, ""),
         (0, 257, FULL, 1, "limit: tree\n"),
+        (0, 100_000, CLASS, CLASS, ""),
+        (0, 100_001, CLASS, CLASS, "limit: files\n"),
+        (0, 100_001, CLASS, FULL + 1, "limit: files\n"),
     ];
     for (others, classes, each, last, output) in folders {
         let folder = large(others, classes, each, last);
         try_large(&rt, rt.alloc(), folder, 0, output)?;
     }
-    let outside = [
-        (100_000, CLASS, ""),
-        (100_001, CLASS, "limit: files\n"),
-        (100_001, FULL + 1, "limit: files\n"),
-    ];
-    for (classes, last, output) in outside {
-        let folder = Large {
-            directory: b'n',
-            ..large(0, classes, CLASS, last)
-        };
-        try_large(&rt, rt.alloc(), folder, 0, output)?;
-    }
+    let outside = Large {
+        directory: b'n',
+        ..large(0, 100_001, CLASS, CLASS)
+    };
+    try_large(&rt, rt.alloc(), outside, 0, "limit: files\n")?;
     Ok(())
 }
