@@ -7,4 +7,5 @@ pub mod Places
 pub mod Sizes
 pub mod Scanned
 pub mod Settled
+pub mod Gaps
 pub mod Spans

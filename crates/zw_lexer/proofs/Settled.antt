@@ -4,7 +4,7 @@ use Rattle.std.specs.List.{list_any}
 use Rattle.std.specs.Map.{lookup}
 use Rattle.std.specs.Str.{bytes_eq, chars, is_utf8, IsUtf8}
 use Rattle.std.specs.Result.{IfErr}
-use Rattle.std.proofs.lemmas.Str.{IsUtf8-from_is_utf8}
+use Rattle.std.proofs.lemmas.Str.{IsUtf8-from_is_utf8, is_utf8-from_IsUtf8}
 use Rattle.std.proofs.lemmas.Slice.Eq.{bytes_eq-Decides}
 use Rattle.std.proofs.lemmas.List.{reverse-append}
 use Rattle.zw_lexer.specs.declared.token.Token.{Token as Code}
@@ -132,9 +132,12 @@ unfolding settled
 settled_all front left whole none before = sym before ∙ ap (λ ts. joined front (settled (first_of (reverse front)) ts)) none ∙ ap Ok (append-nil front)
 
 -- a text in UTF-8 has the tokens of its characters
-pub lexed_characters : (text : Text) → is_utf8 text ≡ true → lexed text ≡ settled_scan (scan_of (chars text))
+lexed_characters : (text : Text) → is_utf8 text ≡ true → lexed text ≡ settled_scan (scan_of (chars text))
 unfolding lexed
 lexed_characters text e = ap (λ b. if b then settled_scan (scan_of (chars text)) else Err (record { line = 1; reason = not_utf8 })) e
+
+pub lexed_as : (bytes text : Text) → IsUtf8 bytes → text ≡ bytes → lexed bytes ≡ settled_scan (scan_of (chars text))
+lexed_as bytes text utf8 same = lexed_characters bytes (is_utf8-from_IsUtf8 bytes utf8) ∙ ap (λ t. settled_scan (scan_of (chars t))) (sym same)
 
 pub lexed_other : (text : Text) → is_utf8 text ≡ false → lexed text ≡ Err (record { line = 1; reason = not_utf8 })
 unfolding lexed
