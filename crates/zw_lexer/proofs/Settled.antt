@@ -1,5 +1,5 @@
 -- How words are told apart, and which line ends are dropped.
-use Rattle.std.proofs.Common.{◌≡◌, Bool, true, false, cond, List, [], ◌∷◌, ◌++◌, map, reverse, Option, Some, None, Bor, option_copied, is_some, Result, Ok, Err, option_map, refl, ap, sym, ◌∙◌, subst, append_assoc, append-nil, if◌then◌else◌, ◌||◌, ◌&&◌}
+use Rattle.std.proofs.Common.{◌≡◌, Bool, true, false, cond, List, [], ◌∷◌, ◌++◌, map, reverse, Option, Some, None, Result, Ok, Err, option_map, refl, ap, sym, ◌∙◌, subst, append_assoc, append-nil, if◌then◌else◌, ◌||◌, ◌&&◌}
 use Rattle.std.specs.List.{list_any}
 use Rattle.std.specs.Map.{lookup}
 use Rattle.std.specs.Str.{bytes_eq, chars, is_utf8, IsUtf8}
@@ -10,18 +10,16 @@ use Rattle.std.proofs.lemmas.List.{reverse-append}
 use Rattle.zw_lexer.specs.declared.token.Token.{Token as Code}
 use Rattle.zw_lexer.specs.declared.token.LexFault.{LexFault}
 use Rattle.zw_lexer.specs.declared.token.LexFault.TheVariants as f
-use Rattle.zw_def.specs.Text.{Text, pieces}
+use Rattle.zw_def.specs.Text.{Text}
 use Rattle.zw_def_syntax.specs.Token.{Kind, Token, Fault, outside_word, not_utf8}
-use Rattle.zw_def_syntax.specs.Lexed.{is_among, keywords, outside_words, is_newline, before_tokens, without_ends_before, settled, drops_end, with_kind, prefixed, kind_after, lexed, settled_scan, scan_of}
+use Rattle.zw_def_syntax.specs.Lexed.{is_among, keywords, is_newline, before_tokens, without_ends_before, settled, drops_end, with_kind, prefixed, kind_after, lexed, settled_scan, scan_of}
 use Rattle.zw_lexer.specs.declared.token.Keyword.{Keyword}
 use Rattle.zw_lexer.specs.declared.token.Keyword.TheVariants as k
 use Rattle.zw_lexer.specs.Seen.{keyword_text, token_seen}
-use Rattle.zw_lexer.specs.Settled.{all_keywords, all_outside, first_of, last_kind, Settles, Faults}
+use Rattle.zw_lexer.specs.Words.{all_keywords}
+use Rattle.zw_lexer.specs.Settled.{first_of, last_kind, Settles, Faults}
 
 -- ---- words
-
-row : Keyword → Text × Keyword
-row k = (keyword_text k, k)
 
 keyword_found : (word : Text) (ks : List Keyword) → option_map keyword_text (lookup (bytes_eq word) (map (λ k. (keyword_text k, k)) ks)) ≡ (if list_any (bytes_eq word) (map keyword_text ks) then Some word else None)
 keyword_found word [] = refl
@@ -34,16 +32,6 @@ keyword_found word (k ∷ ks) = at (bytes_eq word (keyword_text k)) refl (keywor
 pub keyword_told : (word : Text) → option_map keyword_text (lookup (bytes_eq word) all_keywords) ≡ (if is_among keywords word then Some word else None)
 unfolding keywords
 keyword_told word = keyword_found word (k.And ∷ k.Begin ∷ k.Break ∷ k.Class ∷ k.Def ∷ k.Do ∷ k.Else ∷ k.Elsif ∷ k.End ∷ k.Ensure ∷ k.False ∷ k.If ∷ k.Module ∷ k.Next ∷ k.Nil ∷ k.Not ∷ k.Or ∷ k.Rescue ∷ k.Return ∷ k.SelfWord ∷ k.Super ∷ k.Then ∷ k.True ∷ k.Unless ∷ k.Until ∷ k.While ∷ [])
-
-outside_found : (word : Text) (ws : List Text) → is_some (lookup (bytes_eq word) (map (λ w. (w, tt {0})) ws)) ≡ list_any (bytes_eq word) ws
-outside_found word [] = refl
-outside_found word (w ∷ ws) = at (bytes_eq word w) (outside_found word ws) where
-  at : (b : Bool) → is_some (lookup (bytes_eq word) (map (λ w. (w, tt {0})) ws)) ≡ list_any (bytes_eq word) ws → is_some (cond b (Some (tt {0})) (lookup (bytes_eq word) (map (λ w. (w, tt {0})) ws))) ≡ (b || list_any (bytes_eq word) ws)
-  at true rest = refl
-  at false rest = rest
-
-pub outside_told : (word : Text) → is_some (lookup (bytes_eq word) all_outside) ≡ is_among outside_words word
-outside_told word = outside_found word (pieces 32 outside_words)
 
 -- ---- line ends before a closer
 
@@ -93,10 +81,6 @@ unfolding settled
 settled_refused before t ts e f =
     ap (λ b. if b then settled before ts else with_kind t (λ u. prefixed u (settled (Some u.kind) ts)) (kind_after before t.kind ts)) e
     ∙ ap (with_kind t (λ u. prefixed u (settled (Some u.kind) ts))) f
-
-pub copied_some : {T : Type 0} (o : Option (Bor T)) → is_some (option_copied o) ≡ is_some o
-copied_some (Some b) = refl
-copied_some None = refl
 
 last_of_pushed : (xs : List Token) (t : Token) → first_of (reverse (xs ++ t ∷ [])) ≡ Some t.kind
 last_of_pushed xs t = ap first_of (reverse-append xs (t ∷ []))

@@ -4,3 +4,4 @@ pub mod Numbers
 pub mod Places
 pub mod Scans
 pub mod Settled
+pub mod Words

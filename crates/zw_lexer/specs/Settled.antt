@@ -1,11 +1,9 @@
 -- How words are told apart.
 use Rattle.std.specs.Prelude.{◌≡◌, false, List, [], ◌∷◌, ◌++◌, Option, Some, None, Result, Ok, Err, map, reverse}
-use Rattle.zw_def.specs.Text.{Text, pieces}
+use Rattle.zw_def.specs.Text.{Text}
 use Rattle.zw_def_syntax.specs.Token as defined
-use Rattle.zw_def_syntax.specs.Lexed.{kind_after, is_sign, outside_words}
+use Rattle.zw_def_syntax.specs.Lexed.{kind_after, is_sign}
 use Rattle.zw_names.specs.Names.{OnlyGrows}
-use Rattle.zw_lexer.specs.declared.token.Keyword.{Keyword}
-use Rattle.zw_lexer.specs.declared.token.Keyword.TheVariants as k
 use Rattle.zw_lexer.specs.declared.token.Punctuation.{Punctuation}
 use Rattle.zw_lexer.specs.declared.token.Token.{Token}
 use Rattle.zw_lexer.specs.declared.token.LexFault.{LexFault}
@@ -14,7 +12,6 @@ use Rattle.zw_lexer.specs.declared.scan.Raw.{Raw}
 use Rattle.zw_lexer.specs.declared.scan.Span.{Span}
 use Rattle.zw_lexer.specs.declared.settle.Apart.{Apart}
 use Rattle.zw_lexer.specs.declared.settle.Apart.TheVariants as a
-use Rattle.zw_lexer.specs.declared.words.Words.{Words}
 use Rattle.zw_lexer.specs.Seen.{keyword_text, sign_text, token_seen, fault_seen}
 use Rattle.zw_lexer.specs.Scans.{raw_seen}
 
@@ -57,14 +54,3 @@ Settles (Err Memory) names old new raw later = Unit {0}
 abbrev pub Faults : LexFault → Result (List defined.Token) defined.Fault → Type 0
 Faults (Syntax fault) tokens = tokens ≡ Err (fault_seen fault)
 Faults Memory tokens = Unit {0}
-
--- ---- the tables of words
-
-abbrev pub all_keywords : List (Text × Keyword)
-all_keywords = map (λ k. (keyword_text k, k)) (k.And ∷ k.Begin ∷ k.Break ∷ k.Class ∷ k.Def ∷ k.Do ∷ k.Else ∷ k.Elsif ∷ k.End ∷ k.Ensure ∷ k.False ∷ k.If ∷ k.Module ∷ k.Next ∷ k.Nil ∷ k.Not ∷ k.Or ∷ k.Rescue ∷ k.Return ∷ k.SelfWord ∷ k.Super ∷ k.Then ∷ k.True ∷ k.Unless ∷ k.Until ∷ k.While ∷ [])
-
-abbrev pub all_outside : List (Text × Unit {0})
-all_outside = map (λ word. (word, tt {0})) (pieces 32 outside_words)
-
-abbrev pub IsTables : Words → Type 0
-IsTables words = (words.keywords ≡ all_keywords) × (words.outside ≡ all_outside)

@@ -1,5 +1,5 @@
 //! Pieces of a text: a token before its name is numbered, or what lies between tokens.
-ghost use Rattle.std.specs.Prelude.{◌≡◌, IfOk, length, string_bytes};
+ghost use Rattle.std.specs.Prelude.{◌≡◌, IfOk, string_bytes};
 ghost use Rattle.std.specs.Str.{encode_utf8_all};
 ghost use Rattle.zw_lexer.specs.declared.lexeme.Stop.TheVariants.{Memory};
 

@@ -1,5 +1,5 @@
 //! The lexer.
-ghost use Rattle.std.specs.Prelude.{◌≡◌, ◌+◌, ◌^◌, ◌<◌, List, ℕ, IfOk, IfErr, Ok, map, length};
+ghost use Rattle.std.specs.Prelude.{◌≡◌, ◌^◌, ◌<◌, List, ℕ, IfOk, IfErr, Ok, map, length};
 ghost use Rattle.std.specs.Str.{chars, encode_utf8_all};
 ghost use Rattle.zw_def_syntax.specs.Lexed.{first_place, lexed, settled_scan, scan_of};
 ghost use Rattle.zw_def_syntax.specs.Spans.{InOrder, CoversText};

@@ -7,7 +7,7 @@ ghost use Rattle.zw_lexer.specs.Numbers.{within_greatest};
 ghost use Rattle.std.specs.List.{take_while};
 ghost use Rattle.std.specs.Str.Parse.{digits_value};
 ghost use Rattle.zw_def.specs.Text.{is_digit};
-ghost use Rattle.zw_def_syntax.specs.Number.{is_number_part, digits, is_grouped, is_unpadded, is_number_going_on, greatest_integer, number_of, number_token};
+ghost use Rattle.zw_def_syntax.specs.Number.{is_number_part, digits, is_grouped, is_unpadded, is_number_going_on, greatest_integer, number_token};
 ghost use Rattle.zw_lexer.specs.Seen.{Reads};
 
 use crate::character::is_number_part;

@@ -1,12 +1,11 @@
 //! The tokens of a text before its words are told apart.
-ghost use Rattle.std.specs.Prelude.{◌≡◌, ◌+◌, ◌^◌, ◌<◌, ◌≤◌, [], IfOk, OnOk, Result, Err, ℕ, List, map, option_map, length, take, drop};
+ghost use Rattle.std.specs.Prelude.{◌≡◌, ◌+◌, ◌^◌, ◌<◌, ◌≤◌, [], IfOk, OnOk, Result, Err, List, map, option_map, length, take, drop};
 ghost use Rattle.std.specs.Str.{encode_utf8_all};
 ghost use Rattle.zw_def_syntax.specs.Character.{after_characters};
 ghost use Rattle.zw_def_syntax.specs.Scan.{Opening as DefinedOpening, Scanned, scanned, token_between, open_after, with_piece, at_end};
-ghost use Rattle.zw_lexer.specs.Seen.{lexeme_seen, fault_seen};
+ghost use Rattle.zw_lexer.specs.Seen.{Locates, lexeme_seen, fault_seen};
 ghost use Rattle.zw_lexer.specs.Places.{place_seen, nest_seen};
 ghost use Rattle.zw_lexer.specs.Scans.{raw_seen, scan_seen, onto, with_brace, EndsAs};
-ghost use Rattle.zw_lexer.specs.Seen.{Locates};
 ghost use Rattle.zw_def_syntax.specs.Piece.{Piece as DefinedPiece};
 ghost use Rattle.zw_def_syntax.specs.Token.{Fault};
 

@@ -1,14 +1,13 @@
 //! Words are told apart, and line ends that separate nothing are dropped. The tokens that are still to come stand in a
 //! list with the next one last.
-ghost use Rattle.std.specs.Prelude.{◌≡◌, ◌<◌, ◌&&◌, length, IfNone, IfSome, ◌++◌, ◌∷◌, [], List, ℕ, Some, None, not, codes, IfOk, IfErr, OnOk, Result, Ok, Err, map, option_map};
-ghost use Rattle.std.specs.Str.{bytes_eq};
+ghost use Rattle.std.specs.Prelude.{◌≡◌, ◌<◌, ◌&&◌, length, IfNone, IfSome, ◌++◌, ◌∷◌, [], List, ℕ, Some, None, not, codes, IfOk, IfErr, OnOk, Result, Ok, Err, map};
 ghost use Rattle.zw_def_syntax.specs.Token as kind;
 ghost use Rattle.zw_def_syntax.specs.Token.{Kind};
 ghost use Rattle.zw_def_syntax.specs.Lexed.{is_sign, is_keyword, is_newline, first_kind, is_singleton, is_name_after, is_closer, goes_on, drops_end, word_kind, kind_after, before_tokens, settled, without_ends_before};
 ghost use Rattle.zw_names.specs.Names.{OnlyGrows};
 ghost use Rattle.zw_lexer.specs.Seen.{sign_text, keyword_text, lexeme_seen, kind_seen, token_seen};
 ghost use Rattle.zw_lexer.specs.Scans.{raw_seen};
-ghost use Rattle.zw_lexer.specs.Settled.{turned, last_kind, apart_kind, token_with, IsTables, SignOf, Settles, Faults};
+ghost use Rattle.zw_lexer.specs.Settled.{turned, last_kind, apart_kind, token_with, SignOf, Settles, Faults};
 
 use crate::lexeme::Lexeme;
 use crate::scan::{Raw, Span};
@@ -219,7 +218,6 @@ fn is_name_here(settled: &[Token], word: &str, left: &[Raw]) -> bool
 }
 
 fn told_apart(words: &Words, settled: &[Token], word: &str, left: &[Raw]) -> Apart
-    requires { IsTables words.now }
     ensures { (names : List (List ℕ)) (plain : Kind) → word_kind plain (is_name_after (last_kind names settled.now) word.now (turned left.now)) word.now ≡ apart_kind plain result }
 {
     if is_name_here(settled, word, left) {
@@ -236,7 +234,6 @@ fn told_apart(words: &Words, settled: &[Token], word: &str, left: &[Raw]) -> Apa
 
 // What a token is told to be, after these and before those that are left.
 fn apart_of(words: &Words, settled: &[Token], lexeme: &Lexeme, left: &[Raw]) -> Apart
-    requires { IsTables words.now }
     ensures { (names : List (List ℕ)) → kind_after (last_kind names settled.now) (lexeme_seen lexeme.now) (turned left.now) ≡ apart_kind (lexeme_seen lexeme.now) result }
 {
     match lexeme {
@@ -295,7 +292,6 @@ fn settle_token(
     raw: Raw,
     left: &[Raw],
 ) -> Result<(), LexFault>
-    requires { IsTables words.now }
     ensures steps { Settles result names.new settled.old.items settled.new.items (raw_seen raw) (turned left.now) }
     ensures grows { OnlyGrows names.old names.new }
 {
@@ -325,7 +321,6 @@ pub(crate) fn settle(
     words: &Words,
     mut left: Vec<Raw>,
 ) -> Result<Vec<Token>, LexFault>
-    requires { IsTables words.now }
     ensures told { IfOk result (λ tokens. (all : List (List ℕ)) → OnlyGrows names.new all → settled None (turned left.items) ≡ Ok (map (token_seen all) tokens.items)) }
     ensures fault { IfErr result (λ fault. Faults fault (settled None (turned left.items))) }
     ensures grows { OnlyGrows names.old names.new }

@@ -1,12 +1,13 @@
 //! Keywords, and words that the language does not have.
 ghost use Rattle.std.specs.Prelude.{◌≡◌, Some, None, if◌then◌else◌, option_map};
-ghost use Rattle.std.specs.List.{zip};
-ghost use Rattle.zw_table.specs.Words.{words};
+ghost use Rattle.std.specs.Map.{keys_of};
+ghost use Rattle.zw_def.specs.Text.{pieces};
 ghost use Rattle.zw_def_syntax.specs.Lexed.{is_among, keywords, outside_words};
 ghost use Rattle.zw_lexer.specs.Seen.{keyword_text};
-ghost use Rattle.zw_lexer.specs.Settled.{all_keywords, all_outside, IsTables};
+ghost use Rattle.zw_lexer.specs.Words.{all_keywords};
 
 use crate::token::Keyword;
+use std::marker::Model;
 use zw_table::{Table, table};
 
 /// The tables of the words that are no plain names.
@@ -16,10 +17,24 @@ pub(crate) struct Words {
     outside: Table<(), 15>,
 }
 
-fn keyword_table() -> Option<Table<Keyword, 26>>
-    ensures { result ≡ Some all_keywords }
+impl Model for Words {
+    ghost use Rattle.std.specs.Prelude.{◌≡◌};
+    ghost use Rattle.std.specs.Map.{keys_of};
+    ghost use Rattle.zw_def.specs.Text.{pieces};
+    ghost use Rattle.zw_def_syntax.specs.Lexed.{outside_words};
+    ghost use Rattle.zw_lexer.specs.Words.{all_keywords};
+
+    ghost Value = { Unit {0} };
+
+    ghost view = { λ _. tt };
+
+    ghost invariant = { λ s. (s.keywords ≡ all_keywords) × (keys_of s.outside ≡ pieces 32 outside_words) };
+}
+
+fn keyword_table() -> Table<Keyword, 26>
+    ensures { result ≡ all_keywords }
 {
-    table!(
+    let words = table!(
         "and" => Keyword::And,
         "begin" => Keyword::Begin,
         "break" => Keyword::Break,
@@ -46,14 +61,15 @@ fn keyword_table() -> Option<Table<Keyword, 26>>
         "unless" => Keyword::Unless,
         "until" => Keyword::Until,
         "while" => Keyword::While,
-    )
+    );
+    words.unwrap()
 }
 
 #[tactic(auto, unfolding(zw_def_syntax::specs::Lexed::outside_words))]
-fn outside_table() -> Option<Table<(), 15>>
-    ensures { result ≡ Some all_outside }
+fn outside_table() -> Table<(), 15>
+    ensures { keys_of result ≡ pieces 32 outside_words }
 {
-    table!(
+    let words = table!(
         "BEGIN" => (),
         "END" => (),
         "__ENCODING__" => (),
@@ -69,23 +85,21 @@ fn outside_table() -> Option<Table<(), 15>>
         "undef" => (),
         "when" => (),
         "yield" => (),
-    )
+    );
+    words.unwrap()
 }
 
 impl Words {
     /// The tables of the language.
-    pub(crate) fn new() -> Words
-        ensures { IsTables result }
-    {
+    pub(crate) fn new() -> Words {
         Words {
-            keywords: keyword_table().unwrap(),
-            outside: outside_table().unwrap(),
+            keywords: keyword_table(),
+            outside: outside_table(),
         }
     }
 
     /// The keyword that a word is, if it is one (ISO/IEC 30170, 8.7.2).
     pub(crate) fn keyword(&self, word: &str) -> Option<Keyword>
-        requires { IsTables self.now }
         ensures { option_map keyword_text result ≡ (if is_among keywords word.now then Some word.now else None) }
     {
         self.keywords.find(word).copied()
@@ -93,9 +107,8 @@ impl Words {
 
     /// Whether a word is a keyword of Ruby that the language does not have.
     pub(crate) fn is_outside(&self, word: &str) -> bool
-        requires { IsTables self.now }
         ensures { result ≡ is_among outside_words word.now }
     {
-        self.outside.find(word).is_some()
+        self.outside.contains_key(word)
     }
 }

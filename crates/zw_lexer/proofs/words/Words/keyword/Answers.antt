@@ -6,4 +6,4 @@ use Rattle.zw_lexer.proofs.Settled.{keyword_told}
 use Rattle.zw_lexer.proofs.words.Words.keyword.Goals as goal
 
 pub returns : goal.returns
-returns c = ap (option_map keyword_text) (c.copied.ensures ∙ c.find.ensures ∙ ap (lookup (bytes_eq c.args.word.now)) c.requires.0) ∙ keyword_told c.args.word.now
+returns c = ap (option_map keyword_text) (c.copied.ensures ∙ c.find.ensures ∙ ap (lookup (bytes_eq c.args.word.now)) c.self.invariant.0) ∙ keyword_told c.args.word.now
