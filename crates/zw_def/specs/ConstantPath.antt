@@ -17,7 +17,8 @@ parts_of (b ∷ c ∷ more) = if b == 58 && c == 58 then [] ∷ parts_of more el
 -- the path that a text tells, if it tells one: `Object` alone is the empty path
 abbrev pub constant_path_of : Text → Option ConstantPath
 constant_path_of text =
-    if bytes_eq text (codes "Object") then Some [] else if list_all is_constant (parts_of text) then Some (parts_of text) else None
+    if bytes_eq text (codes "Object") then Some []
+    else (if list_all is_constant (parts_of text) then Some (parts_of text) else None)
 
 -- names with `::` between them
 abbrev pub scoped : Text → List Text → Text

@@ -1,7 +1,11 @@
 -- The lines of a stream. A line ends with LF or with the stream.
-use Rattle.std.specs.Prelude.{ℕ, List, [], ◌∷◌, ◌+◌, ◌==◌, if◌then◌else◌}
+use Rattle.std.specs.Prelude.{◌≡◌, ◌<◌, ◌||◌, ℕ, Bool, List, [], ◌∷◌, ◌+◌, ◌==◌, if◌then◌else◌, length}
 use Rattle.std.specs.List.{onto_first}
 use Rattle.zw_def.specs.Text.{Text}
+
+-- a space or a tab
+abbrev pub is_blank : ℕ → Bool
+is_blank b = b == 32 || b == 9
 
 -- the first line, without its LF
 abbrev pub line_of : Text → Text
@@ -32,3 +36,11 @@ onto_whole b (line ∷ lines) = (b ∷ line) ∷ lines
 abbrev pub whole_lines : Text → List Text
 whole_lines [] = []
 whole_lines (b ∷ bs) = if b == 10 then [] ∷ whole_lines bs else onto_whole b (whole_lines bs)
+
+-- the bytes have no LF
+abbrev pub IsWithinLine : Text → Type 0
+IsWithinLine bytes = line_of bytes ≡ bytes
+
+-- the first line ends with an LF, not with the bytes
+abbrev pub HasLineFeed : Text → Type 0
+HasLineFeed bytes = length (line_of bytes) < line_size bytes

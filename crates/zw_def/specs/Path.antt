@@ -22,7 +22,8 @@ is_dots (b ∷ c ∷ d ∷ more) = false
 
 -- a component: one to 255 bytes of UTF-8, and neither `.` nor `..`
 abbrev pub is_component : Text → Bool
-is_component text = nat_le 1 (length text) && nat_le (length text) 255 && not (is_dots text) && list_all is_component_byte text
+is_component text =
+    nat_le 1 (length text) && nat_le (length text) 255 && not (is_dots text) && list_all is_component_byte text
 
 -- the components that a text in UTF-8 is cut into
 abbrev pub components : Text → Path

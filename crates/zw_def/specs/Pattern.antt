@@ -1,5 +1,6 @@
--- Patterns. A pattern is a path whose components may hold `*`, which stands for any run of characters of that component;
--- a component `**` stands for any number of whole components, none included. All other characters stand for themselves.
+-- Patterns. A pattern is a path whose components may hold `*`, which stands for any run of characters of that
+-- component; a component `**` stands for any number of whole components, none included. All other characters stand for
+-- themselves.
 use Rattle.std.specs.Prelude.{◌≡◌, ℕ, Bool, true, false, List, [], ◌∷◌, ◌++◌, ◌==◌, ◌&&◌, ◌||◌, if◌then◌else◌, MatchBool, codes}
 use Rattle.std.specs.Str.{bytes_eq}
 use Rattle.zw_def.specs.Text.{Text}
@@ -10,7 +11,8 @@ module _ {P X : Type 0} (is_star : P → Bool) (Fits : P → X → Type 0) where
   abbrev pub Cuts : List P → List X → Type 0
   Cuts [] xs = xs ≡ []
   Cuts (p ∷ ps) xs =
-      MatchBool (is_star p) ((run : List X) × (rest : List X) × (xs ≡ run ++ rest) × Cuts ps rest) ((x : X) × (rest : List X) × (xs ≡ x ∷ rest) × Fits p x × Cuts ps rest)
+      MatchBool (is_star p) ((run : List X) × (rest : List X) × (xs ≡ run ++ rest) × Cuts ps rest)
+      ((x : X) × (rest : List X) × (xs ≡ x ∷ rest) × Fits p x × Cuts ps rest)
 
 abbrev pub is_star : ℕ → Bool
 is_star b = b == 42

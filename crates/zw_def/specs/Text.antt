@@ -1,6 +1,6 @@
 -- Texts, which are lists of bytes, and their pieces.
 use Rattle.std.specs.Prelude.{ℕ, Bool, false, List, [], ◌∷◌, ◌==◌, ◌&&◌, ◌||◌, nat_le, length, if◌then◌else◌, Option, Some, None, take, drop}
-use Rattle.std.specs.List.{slice_split, join_with_byte, list_all}
+use Rattle.std.specs.List.{slice_split, join_with_byte, list_all, list_any}
 use Rattle.std.specs.Str.{bytes_eq}
 
 abbrev pub Text : Type 0
@@ -16,7 +16,12 @@ joined separator texts = join_with_byte separator texts
 
 -- what follows a prefix, where the text begins with it
 abbrev pub after_prefix : Text → Text → Option Text
-after_prefix prefix text = if bytes_eq (take (length prefix) text) prefix then Some (drop (length prefix) text) else None
+after_prefix prefix text =
+    if bytes_eq (take (length prefix) text) prefix then Some (drop (length prefix) text) else None
+
+-- the text is one of the others
+abbrev pub is_among : List Text → Text → Bool
+is_among texts text = list_any (bytes_eq text) texts
 
 abbrev pub is_digit : ℕ → Bool
 is_digit b = nat_le 48 b && nat_le b 57

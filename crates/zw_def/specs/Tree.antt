@@ -38,7 +38,9 @@ admits fixed tree path = is_ruby_path path && not (list_any (same_path path) fix
 -- the tree with one more file, at its place in path order
 abbrev pub with_file : Tree → Path → Text → Tree
 with_file [] path text = record { path = path; text = text } ∷ []
-with_file (f ∷ fs) path text = if precedes path f.path then record { path = path; text = text } ∷ f ∷ fs else f ∷ with_file fs path text
+with_file (f ∷ fs) path text =
+    if precedes path f.path then record { path = path; text = text } ∷ f ∷ fs
+    else f ∷ with_file fs path text
 
 -- the bytes of all files together
 abbrev pub size_of : Tree → ℕ

@@ -1,0 +1,14 @@
+pub mod PlainLemmas
+pub mod PieceLemmas
+pub mod BaseLemmas
+pub mod PathLemmas
+pub mod PathOrderLemmas
+pub mod DirectoryLemmas
+pub mod RubyPathLemmas
+pub mod PatternLemmas
+pub mod NameLemmas
+pub mod ConstantPathLemmas
+pub mod CamelizedLemmas
+pub mod ToldLemmas
+pub mod LineLemmas
+pub mod FolderLemmas
