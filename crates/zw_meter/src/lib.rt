@@ -7,8 +7,6 @@ ghost use Rattle.std.specs.Prelude.{◌≡◌, ◌+◌, ◌-◌, ◌<◌, ◌≤
 ghost use Rattle.zw_meter.specs.declared.TheConstants.{DEPTH};
 
 mod steps;
-#[cfg(test)]
-mod tests;
 
 pub use steps::Steps;
 

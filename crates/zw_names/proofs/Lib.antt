@@ -1,4 +1,2 @@
-pub mod Cut
-pub mod Left
-pub mod Grown
-pub mod Joined
+pub mod NamesLemmas
+pub mod CPathLemmas

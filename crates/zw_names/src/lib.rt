@@ -7,9 +7,7 @@
 mod names;
 mod parts;
 mod path;
-#[cfg(test)]
-mod tests;
 
 pub use names::{EntryId, Name, Names};
 pub use parts::{is_constant, is_cpath};
-pub use path::{CPath, CPathFault};
+pub use path::{BadCPath, CPath, CPathFault};

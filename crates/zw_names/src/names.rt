@@ -2,7 +2,7 @@
 ghost use Rattle.std.specs.Prelude.{◌≡◌, ◌<◌, [], ◌==◌, Some, IfSome, IfOk, IsOkAnd, OnOk, OnErr, is_some, length, slice_get};
 ghost use Rattle.std.specs.List.{list_any};
 ghost use Rattle.std.specs.Str.{bytes_eq};
-ghost use Rattle.zw_names.specs.Names.{IsDistinct, OnlyGrows, with_name};
+ghost use Rattle.zw_def.specs.Names.{IsDistinct, OnlyGrows, with_name};
 
 use indexmap::IndexSet;
 use std::alloc::{AllocError, Global};
@@ -26,7 +26,7 @@ pub struct Names {
 impl Model for Names {
     ghost use Rattle.std.specs.Prelude.{List, ℕ, map, string_bytes};
     ghost use Rattle.std.specs.Coded.{coded_ℕ, coded_list};
-    ghost use Rattle.zw_names.specs.Names.{IsDistinct};
+    ghost use Rattle.zw_def.specs.Names.{IsDistinct};
 
     ghost Value = { List (List ℕ) };
 

@@ -1,22 +1,26 @@
 //! Constant paths.
-ghost use Rattle.std.specs.Prelude.{◌≡◌, ◌<◌, ◌-◌, ◌↔◌, [], ◌∷◌, ◌++◌, Some, None, Err, IsNone, IfSome, IfOk, OnOk, IsErrOf, length, map, slice_get, take, string_bytes};
+ghost use Rattle.std.specs.Prelude.{◌≡◌, ◌<◌, ◌-◌, ◌↔◌, [], ◌∷◌, ◌++◌, Some, None, Err, IsNone, IfSome, IfOk, OnOk, length, map, slice_get, take, string_bytes};
 ghost use Rattle.zw_def.specs.ConstantPath.{parts_of, constant_path_of, constant_path_text, scoped};
-ghost use Rattle.zw_names.specs.Names.{OnlyGrows, AreNamed, texts_of};
+ghost use Rattle.zw_base.specs.Fault.{IsRefusedFor};
+ghost use Rattle.zw_def.specs.Names.{OnlyGrows, AreNamed, texts_of};
 
 use crate::names::{Name, Names};
 use crate::parts::{OBJECT, are_constants, first_part};
 use std::alloc::{AllocError, Global};
 use std::marker::Model;
 use thiserror::Error;
+use zw_base::Fault;
 
-/// Why a text could not be read as a constant path.
+/// Why a text tells no constant path.
 #[derive(Clone, Copy, Debug, PartialEq, Eq, Error)]
-pub enum CPathFault {
+pub enum BadCPath {
+    /// A part of the text between the places of `::` is no constant's name.
     #[error("not a constant path")]
     NotAConstant,
-    #[error("out of memory")]
-    Memory,
 }
+
+/// Why there is no constant path: the text tells none, or there was no memory.
+pub type CPathFault = Fault<BadCPath>;
 
 /// A constant path: a list of names. Contracts see the list of their numbers.
 #[derive(Drop)]
@@ -55,7 +59,8 @@ fn intern_parts(alloc: Global, names: &mut Names, text: &str) -> Result<Vec<Name
 /// Writes names behind a text, each after `::`.
 fn push_names(text: &mut String, names: &Names, path: &[Name]) -> Result<(), AllocError>
     requires { AreNamed names.now (map (λ n. n.0) path.now) }
-    ensures { OnOk result (string_bytes text.new ≡ scoped (string_bytes text.old) (texts_of names.now (map (λ n. n.0) path.now))) }
+    ensures { OnOk result (
+        string_bytes text.new ≡ scoped (string_bytes text.old) (texts_of names.now (map (λ n. n.0) path.now))) }
 {
     for name in path {
         text.push_str("::")?;
@@ -78,20 +83,18 @@ impl CPath {
     pub fn parse(alloc: Global, names: &mut Names, text: &str) -> Result<CPath, CPathFault>
         ensures path { IfOk result (λ path. constant_path_of text.now ≡ Some (texts_of names.new path)) }
         ensures named { IfOk result (λ path. AreNamed names.new path) }
-        ensures not_a_constant { IsErrOf result CPathFault.NotAConstant ↔ (constant_path_of text.now ≡ None) }
+        ensures refused { IsRefusedFor result BadCPath.NotAConstant ↔ (constant_path_of text.now ≡ None) }
         ensures grows { OnlyGrows names.old names.new }
-        ensures unchanged { IsErrOf result CPathFault.NotAConstant → names.new ≡ names.old }
+        ensures unchanged { IsRefusedFor result BadCPath.NotAConstant → names.new ≡ names.old }
     {
         if text == OBJECT {
             return Ok(CPath::object(alloc));
         }
         if !are_constants(text) {
-            return Err(CPathFault::NotAConstant);
+            return Err(CPathFault::Refused(BadCPath::NotAConstant));
         }
-        match intern_parts(alloc, names, text) {
-            Ok(names) => Ok(CPath { names }),
-            Err(_) => Err(CPathFault::Memory),
-        }
+        let names = intern_parts(alloc, names, text)?;
+        Ok(CPath { names })
     }
 
     /// The names of the path, from the outermost on.

@@ -1,6 +1,2 @@
-pub mod Compared
-pub mod Pieces
-pub mod Faults
-pub mod Endings
-pub mod Matching
-pub mod Cutting
+pub mod BadPathLemmas
+pub mod MatchingLemmas

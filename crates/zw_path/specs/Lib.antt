@@ -1,3 +1,3 @@
-pub mod Fault
+pub mod BadPath
 pub mod Shape
 pub mod Front

@@ -3,9 +3,9 @@ ghost use Rattle.std.specs.Prelude.{◌≡◌};
 ghost use Rattle.std.specs.List.{list_all};
 ghost use Rattle.zw_def.specs.Path.{is_component_byte, is_dots, is_component};
 ghost use Rattle.zw_def.specs.Base.{without_rb};
-ghost use Rattle.zw_path.specs.Fault.{component_fault};
+ghost use Rattle.zw_path.specs.BadPath.{bad_component};
 
-use crate::path::PathFault;
+use crate::bad_path::BadPath;
 
 /// The most bytes that a component has.
 const LONGEST: usize = 255;
@@ -38,22 +38,22 @@ fn is_whole(component: &str) -> bool
 }
 
 /// What is wrong with a component, where something is.
-pub fn fault_of(component: &str) -> Option<PathFault>
-    ensures { result ≡ component_fault component.now }
+pub(crate) fn bad_component(component: &str) -> Option<BadPath>
+    ensures { result ≡ bad_component component.now }
 {
     if component.is_empty() {
-        Some(PathFault::Empty)
+        Some(BadPath::Empty)
     } else if are_dots(component) {
-        Some(PathFault::Dots)
+        Some(BadPath::Dots)
     } else if is_whole(component) {
         None
     } else {
-        Some(PathFault::BadChar)
+        Some(BadPath::BadChar)
     }
 }
 
 /// The component without a final `.rb`.
-pub fn without_ending(component: &str) -> &str
+pub(crate) fn without_ending(component: &str) -> &str
     ensures { result.now ≡ without_rb component.now }
 {
     match component.strip_suffix(".rb") {

@@ -1,55 +1,19 @@
 //! Paths.
-ghost use Rattle.std.specs.Prelude.{◌≡◌, ◌≢◌, Some, IfOk, IfErr, map, string_bytes};
-ghost use Rattle.std.specs.Prelude.{refl};
+ghost use Rattle.std.specs.Prelude.{◌≡◌, Some, IfOk, map, string_bytes, refl};
 ghost use Rattle.std.specs.Ordering.{nat_cmp};
 ghost use Rattle.std.specs.Cmp.{po, partial_equiv_from_equiv};
 ghost use Rattle.std.specs.Cmp.Lexicographic.{slice_cmp, lists_equiv, lists_total, lists_ties, nat_list_eq_equiv, nat_list_cmp_total, texts_ties};
 ghost use Rattle.zw_def.specs.Path.{path_of, path_text, is_below, path_cmp, precedes, same_path};
 ghost use Rattle.zw_def.specs.Base.{base_of};
-ghost use Rattle.zw_path.specs.Fault.{path_fault};
+ghost use Rattle.zw_base.specs.Fault.{IfRefused};
+ghost use Rattle.zw_path.specs.BadPath.{bad_path};
 ghost use Rattle.zw_path.specs.Shape.{IsPath};
-ghost use Rattle.zw_path.specs.declared.path.PathFault.TheVariants.{Memory};
 
-use crate::component::{fault_of, without_ending};
-use std::alloc::{AllocError, AllocFailed, Global};
+use crate::bad_path::{BadPath, PathFault};
+use crate::component::{bad_component, without_ending};
+use std::alloc::{AllocError, Global};
 use std::cmp::Ordering;
 use std::marker::Model;
-use thiserror::Error;
-
-/// Why a text tells no path. A leading `/` is told first, and then the first component that has a fault.
-#[derive(Clone, Copy, Debug, PartialEq, Eq, Error)]
-pub enum PathFault {
-    /// The text or a component of it is empty.
-    #[error("empty component")]
-    Empty,
-    /// A component is `.` or `..`.
-    #[error("component of dots")]
-    Dots,
-    /// The text begins with `/`.
-    #[error("absolute path")]
-    Absolute,
-    /// A component has a character below U+0020 or U+007F, or more than 255 bytes.
-    #[error("bad component")]
-    BadChar,
-    #[error("out of memory")]
-    Memory,
-}
-
-impl From<AllocError> for PathFault {
-    ghost from_gives = { λ _ fault. fault ≡ Memory };
-
-    fn from(_error: AllocError) -> PathFault {
-        PathFault::Memory
-    }
-}
-
-impl<T: Drop> From<AllocFailed<T>> for PathFault {
-    ghost from_gives = { λ _ fault. fault ≡ Memory };
-
-    fn from(_error: AllocFailed<T>) -> PathFault {
-        PathFault::Memory
-    }
-}
 
 /// A path of a file or a directory of a tree. A clause sees it as the list of its components, each a text.
 #[derive(Debug, Drop)]
@@ -72,21 +36,23 @@ impl Path {
     /// The path that the text tells.
     pub fn parse(alloc: Global, text: &str) -> Result<Path, PathFault>
         ensures path { IfOk result (λ path. path_of text.now ≡ Some path) }
-        ensures fault { IfErr result (λ fault. fault ≢ PathFault.Memory → path_fault text.now ≡ Some fault) }
+        ensures refused { IfRefused result (λ bad. bad_path text.now ≡ Some bad) }
+        ensures none { IfRefused result (λ _. path_of text.now ≡ None) }
     {
         if text.starts_with('/') {
-            return Err(PathFault::Absolute);
+            return Err(PathFault::Refused(BadPath::Absolute));
         }
         let mut components = Vec::new(alloc);
         for piece in text.split('/') {
-            match fault_of(piece) {
-                Some(fault) => return Err(fault),
+            match bad_component(piece) {
+                Some(bad) => return Err(PathFault::Refused(bad)),
                 None => components.push(String::from_str(alloc, piece)?)?,
             }
         }
         Ok(Path { components })
     }
 
+    /// The components, from the outermost on: one at least, and each a whole one.
     pub fn components(&self) -> &[String]
         ensures value { map string_bytes result.now ≡ self.now }
         ensures whole { IsPath self.now }
@@ -128,6 +94,7 @@ impl Path {
         Ok(text)
     }
 
+    /// The same path.
     pub fn copy(&self, alloc: Global) -> Result<Path, AllocError>
         ensures { IfOk result (λ path. path ≡ self.now) }
     {

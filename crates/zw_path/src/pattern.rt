@@ -1,12 +1,14 @@
 //! Patterns.
-ghost use Rattle.std.specs.Prelude.{◌≡◌, ◌≢◌, ◌↔◌, Some, IfOk, IfErr, IsTrue};
+ghost use Rattle.std.specs.Prelude.{◌≡◌, ◌↔◌, Some, IfOk, IsTrue};
 ghost use Rattle.zw_def.specs.Path.{path_of};
 ghost use Rattle.zw_def.specs.Pattern.{matches, StandsFor};
-ghost use Rattle.zw_path.specs.Fault.{path_fault};
+ghost use Rattle.zw_base.specs.Fault.{IfRefused};
+ghost use Rattle.zw_path.specs.BadPath.{bad_path};
 
-use crate::path::{Path, PathFault};
+use crate::bad_path::PathFault;
+use crate::path::Path;
 use crate::symbol::can_match;
-use std::alloc::Global;
+use std::alloc::{AllocError, Global};
 use std::marker::Model;
 
 /// A path in which `*` stands for any run of characters of a component, and a component `**` for any number of
@@ -25,12 +27,20 @@ impl Model for Pattern {
 }
 
 impl Pattern {
-    /// The pattern that the text tells. Its faults are those of a path.
+    /// The pattern that the text tells. It is refused as a path is.
     pub fn parse(alloc: Global, text: &str) -> Result<Pattern, PathFault>
         ensures pattern { IfOk result (λ pattern. path_of text.now ≡ Some pattern) }
-        ensures fault { IfErr result (λ fault. fault ≢ PathFault.Memory → path_fault text.now ≡ Some fault) }
+        ensures refused { IfRefused result (λ bad. bad_path text.now ≡ Some bad) }
     {
         let path = Path::parse(alloc, text)?;
+        Ok(Pattern { path })
+    }
+
+    /// The same pattern.
+    pub fn copy(&self, alloc: Global) -> Result<Pattern, AllocError>
+        ensures { IfOk result (λ pattern. pattern ≡ self.now) }
+    {
+        let path = self.path.copy(alloc)?;
         Ok(Pattern { path })
     }
 

@@ -1,12 +1,12 @@
 //! Matching of a list of symbols, some of which are stars, against a list of elements. Where the symbols up to the next
-//! star fit, a longer run for an earlier star need not be tried. So each turn drops symbols or one element for good, and
-//! there are no more turns than symbols and elements together.
+//! star fit, a longer run for an earlier star need not be tried. So each turn drops symbols or one element for good,
+//! and there are no more turns than symbols and elements together.
 ghost use Rattle.std.specs.Prelude.{◌≡◌, ◌==◌, Bool, string_bytes};
 ghost use Rattle.zw_def.specs.Pattern.{is_star, is_double_star, some_rest, can_cut, matches_part};
 ghost use Rattle.zw_path.specs.Front.{front_of, IsWithin};
 
 /// A symbol of a pattern.
-pub trait Symbol {
+pub(crate) trait Symbol {
     ghost is_star: { Self → Bool };
 
     ghost fits: { Self → Self → Bool };
@@ -103,7 +103,7 @@ fn can_match_rest<S: Symbol>(mut pattern: &[S], mut elements: &[S]) -> bool
 }
 
 /// Whether the symbols match the elements.
-pub fn can_match<S: Symbol>(pattern: &[S], elements: &[S]) -> bool
+pub(crate) fn can_match<S: Symbol>(pattern: &[S], elements: &[S]) -> bool
     ensures { result ≡ can_cut S.is_star S.fits pattern.now elements.now }
 {
     match front_against(pattern, elements) {

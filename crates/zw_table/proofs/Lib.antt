@@ -1,4 +1,3 @@
-pub mod Rising
-pub mod Rows
-pub mod Pieces
-pub mod Told
+pub mod RisingLemmas
+pub mod KeyLemmas
+pub mod RowLemmas

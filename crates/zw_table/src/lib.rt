@@ -11,8 +11,6 @@ ghost use Rattle.zw_table.specs.Words.{words, tells_keys};
 
 mod keys;
 mod macros;
-#[cfg(test)]
-mod tests;
 
 use arrayvec::ArrayVec;
 use keys::keys_of;
@@ -37,7 +35,8 @@ impl<V, const N: usize> Model for Table<V, N> {
 
     ghost view = { λ t. zip (map (λ k. k.now) t.keys.items) t.values.items };
 
-    ghost invariant = { λ t. IsTrue (rises (map (λ k. k.now) t.keys.items)) × (length t.keys.items ≡ length t.values.items) };
+    ghost invariant = { λ t.
+        IsTrue (rises (map (λ k. k.now) t.keys.items)) × (length t.keys.items ≡ length t.values.items) };
 }
 
 impl<V, const N: usize> Table<V, N> {

@@ -1,7 +1,3 @@
-pub mod Fronts
-pub mod Halves
-pub mod Mapped
-pub mod Order
-pub mod Place
-pub mod Rising
-pub mod RubyPath
+pub mod PlaceLemmas
+pub mod RisingLemmas
+pub mod HalvesLemmas

@@ -1,3 +1,3 @@
 pub mod Rising
-pub mod Seen
+pub mod File
 pub mod Text

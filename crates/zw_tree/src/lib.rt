@@ -7,6 +7,3 @@ mod ruby;
 pub mod tree;
 
 pub use tree::{File, Tree};
-
-#[cfg(test)]
-mod tests;

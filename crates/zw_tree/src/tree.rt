@@ -4,8 +4,8 @@ ghost use Rattle.std.specs.List.{list_any, position_or_len, find};
 ghost use Rattle.std.specs.Option.{option_map};
 ghost use Rattle.zw_def.specs.Path.{precedes, same_path, is_below};
 ghost use Rattle.zw_def.specs.Tree.{admits, is_in_the_way, with_file, size_of};
-ghost use Rattle.zw_tree.specs.Rising.{IsRising};
-ghost use Rattle.zw_tree.specs.Seen.{file_seen};
+ghost use Rattle.zw_tree.specs.Rising.{IsRising, first_behind};
+ghost use Rattle.zw_tree.specs.File.{file_seen};
 ghost use Rattle.zw_tree.specs.Text.{text_at};
 
 use crate::ruby::is_ruby;
@@ -31,16 +31,18 @@ impl Model for Tree {
     ghost use Rattle.std.specs.Prelude.{◌≡◌, map};
     ghost use Rattle.zw_def.specs.Tree.{Tree as Files, size_of};
     ghost use Rattle.zw_tree.specs.Rising.{IsRising};
-    ghost use Rattle.zw_tree.specs.Seen.{file_seen};
+    ghost use Rattle.zw_tree.specs.File.{file_seen};
 
     ghost Value = { Files };
 
     ghost view = { λ t. map file_seen t.files.items };
 
-    ghost invariant = { λ t. (t.size ≡ size_of (map file_seen t.files.items)) × IsRising (map file_seen t.files.items) };
+    ghost invariant = { λ t.
+        (t.size ≡ size_of (map file_seen t.files.items)) × IsRising (map file_seen t.files.items) };
 }
 
 impl Tree {
+    /// A tree without files.
     pub fn new(alloc: Global) -> Tree
         ensures { result ≡ [] }
     {
@@ -50,12 +52,14 @@ impl Tree {
         }
     }
 
+    /// How many files there are.
     pub fn len(&self) -> usize
         ensures { result ≡ length self.now }
     {
         self.files.len()
     }
 
+    /// Whether there is no file.
     pub fn is_empty(&self) -> bool
         ensures { result ≡ (length self.now == 0) }
     {
@@ -116,7 +120,8 @@ impl Tree {
 
     /// The first file whose path does not stand before that of these components.
     fn first_from(&self, components: &[String]) -> Option<&File>
-        ensures first { option_map (λ f. file_seen f.now) result ≡ find (λ f. not (precedes f.path (map string_bytes components.now))) self.now }
+        ensures first { option_map (λ f. file_seen f.now) result
+            ≡ first_behind (map string_bytes components.now) self.now }
         ensures rising { IsRising self.now }
     {
         let place = self

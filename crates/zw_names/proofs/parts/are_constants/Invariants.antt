@@ -3,7 +3,7 @@ use Rattle.std.specs.List.{list_all}
 use Rattle.zw_def.specs.Constant.{is_constant}
 use Rattle.zw_def.specs.ConstantPath.{parts_of}
 use Rattle.zw_names.specs.Path.{parts_left}
-use Rattle.zw_names.proofs.Left.{size_left}
+use Rattle.zw_lemmas.proofs.TextLemmas.{size_left}
 use Rattle.zw_names.proofs.parts.are_constants.Given as goal
 
 -- what is left decides

@@ -1,4 +1,4 @@
-use Rattle.zw_names.proofs.Cut.{parts_of-none, parts_of-cut}
+use Rattle.zw_def.proofs.ConstantPathLemmas.{parts_of-none, parts_of-cut}
 use Rattle.zw_names.proofs.parts.first_part.Goals as goal
 
 pub returns-in-Some-clause-part : goal.returns-in-Some-clause-part

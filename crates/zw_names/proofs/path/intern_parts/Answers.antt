@@ -1,7 +1,8 @@
 use Rattle.std.proofs.Common.{◌≡◌, ◌∷◌, ◌∙◌, ap}
 use Rattle.zw_def.specs.ConstantPath.{parts_of}
 use Rattle.zw_names.specs.Path.{parts_left}
-use Rattle.zw_names.proofs.Grown.{part_read, OnlyGrows-trans}
+use Rattle.zw_names.proofs.CPathLemmas.{part_read}
+use Rattle.zw_def.proofs.NameLemmas.{OnlyGrows-trans}
 use Rattle.zw_names.proofs.path.intern_parts.Goals as goal
 
 pub loop-left-preserved : goal.loop-left-preserved

@@ -1,9 +1,9 @@
 use Rattle.std.proofs.Common.{◌≡◌, ◌++◌, map}
 use Rattle.zw_def.specs.ConstantPath.{parts_of}
-use Rattle.zw_names.specs.Names.{OnlyGrows, AreNamed, texts_of}
+use Rattle.zw_def.specs.Names.{OnlyGrows, AreNamed, texts_of}
 use Rattle.zw_names.specs.Path.{parts_left}
 use Rattle.zw_names.specs.declared.names.Name.{Name}
-use Rattle.zw_names.proofs.Left.{size_left}
+use Rattle.zw_lemmas.proofs.TextLemmas.{size_left}
 use Rattle.zw_names.proofs.path.intern_parts.Given as goal
 
 -- the names tell the parts that are read

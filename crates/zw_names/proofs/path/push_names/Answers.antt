@@ -1,5 +1,5 @@
 use Rattle.std.specs.String.{string_bytes}
-use Rattle.zw_names.proofs.Joined.{number_named, name_pushed}
+use Rattle.zw_names.proofs.CPathLemmas.{number_named, name_pushed}
 use Rattle.zw_names.proofs.path.push_names.Goals as goal
 
 pub text-requires : goal.text-requires

@@ -1,7 +1,7 @@
 use Rattle.std.proofs.Common.{◌≡◌, map, take}
 use Rattle.std.specs.String.{string_bytes}
 use Rattle.zw_def.specs.ConstantPath.{scoped}
-use Rattle.zw_names.specs.Names.{texts_of}
+use Rattle.zw_def.specs.Names.{texts_of}
 use Rattle.zw_names.specs.declared.names.Name.{Name}
 use Rattle.zw_names.proofs.path.push_names.Given as goal
 

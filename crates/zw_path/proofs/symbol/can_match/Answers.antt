@@ -1,6 +1,6 @@
 use Rattle.std.proofs.Common.{sym, ◌∙◌}
 use Rattle.std.proofs.lemmas.List.{take_rest}
-use Rattle.zw_path.proofs.Matching.{matched_front, matched_whole, matched_unlike}
+use Rattle.zw_path.proofs.MatchingLemmas.{matched_front, matched_whole, matched_unlike}
 use Rattle.zw_path.proofs.symbol.can_match.Goals as goal
 
 pub returns-in-Star : goal.returns-in-Star

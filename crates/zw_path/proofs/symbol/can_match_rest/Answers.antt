@@ -1,6 +1,6 @@
 use Rattle.std.proofs.Common.{sym, ◌∙◌}
 use Rattle.std.proofs.lemmas.List.{take_rest}
-use Rattle.zw_path.proofs.Matching.{rest_front, rest_whole, rest_unlike, rest_none}
+use Rattle.zw_path.proofs.MatchingLemmas.{rest_front, rest_whole, rest_unlike, rest_none}
 use Rattle.zw_path.proofs.symbol.can_match_rest.Goals as goal
 
 pub turns-preserved-in-Star : goal.turns-preserved-in-Star

@@ -1,6 +1,6 @@
 use Rattle.std.proofs.Common.{sym, ap, ◌∙◌, arith}
 use Rattle.zw_path.specs.Front.{past}
-use Rattle.zw_path.proofs.Matching.{front_short}
+use Rattle.zw_path.proofs.MatchingLemmas.{front_short}
 use Rattle.zw_path.proofs.symbol.front_against.Goals as goal
 
 pub returns-else-pattern-elements-clause-value : goal.returns-else-pattern-elements-clause-value

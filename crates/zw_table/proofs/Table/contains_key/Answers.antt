@@ -1,6 +1,6 @@
 use Rattle.std.proofs.Common.{◌∙◌}
 use Rattle.std.specs.Str.{bytes_eq}
-use Rattle.zw_table.proofs.Rows.{has_row}
+use Rattle.zw_table.proofs.RowLemmas.{has_row}
 use Rattle.zw_table.proofs.Table.contains_key.Goals as goal
 
 pub returns : goal.returns

@@ -1,5 +1,5 @@
 use Rattle.std.proofs.Common.{refl}
-use Rattle.zw_table.proofs.Told.{keys_rise}
+use Rattle.zw_table.proofs.KeyLemmas.{keys_rise}
 use Rattle.zw_table.proofs.Table.of.Goals as goal
 
 pub invariant_of-result : goal.invariant_of-result

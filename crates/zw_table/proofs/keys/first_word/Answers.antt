@@ -1,6 +1,6 @@
 use Rattle.std.proofs.Common.{lit<, Some, None}
 use Rattle.std.proofs.lemmas.Str.Pattern.{split_parts}
-use Rattle.zw_table.proofs.Pieces.{pieces-none, pieces-first}
+use Rattle.zw_def.proofs.PieceLemmas.{pieces-none, pieces-first}
 use Rattle.zw_table.proofs.keys.first_word.Goals as goal
 
 pub returns-in-Some-clause-word : goal.returns-in-Some-clause-word

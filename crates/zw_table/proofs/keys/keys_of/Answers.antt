@@ -2,8 +2,8 @@ use Rattle.std.proofs.Common.{rules, ◌≡◌, ◌∷◌, map, length, sym, ap,
 use Rattle.std.proofs.lemmas.List.{length-map}
 use Rattle.zw_table.specs.Left.{words_left}
 use Rattle.zw_table.specs.Words.{words}
-use Rattle.zw_table.proofs.Rising.{rises_after}
-use Rattle.zw_table.proofs.Told.{out_of_order, all_read, before_by_le, read_more, none_left}
+use Rattle.zw_table.proofs.RisingLemmas.{rises_after}
+use Rattle.zw_table.proofs.KeyLemmas.{out_of_order, all_read, before_by_le, read_more, none_left}
 use Rattle.zw_table.proofs.keys.keys_of.Goals as goal
 
 pub returns-then-le-clause-told : goal.returns-then-le-clause-told

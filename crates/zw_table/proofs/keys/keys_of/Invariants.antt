@@ -5,7 +5,7 @@ use denote.Shadow.{shadow}
 use Rattle.zw_def.specs.Text.{Text}
 use Rattle.zw_table.specs.Words.{words}
 use Rattle.zw_table.specs.Left.{words_left}
-use Rattle.zw_table.proofs.Rising.{rises_after}
+use Rattle.zw_table.proofs.RisingLemmas.{rises_after}
 use Rattle.zw_table.proofs.keys.keys_of.Given as goal
 
 -- the words are those read and those left, and what is left decides whether all of them rise

@@ -1,6 +1,6 @@
 use Rattle.std.proofs.Common.{codes, ◌∙◌}
 use Rattle.std.proofs.lemmas.Str.Pattern.{ends_text}
-use Rattle.zw_tree.proofs.RubyPath.{ends_same}
+use Rattle.zw_def.proofs.RubyPathLemmas.{ends_same}
 use Rattle.zw_tree.proofs.ruby.ends_in_rb.Goals as goal
 
 pub returns : goal.returns

@@ -3,7 +3,7 @@ use Rattle.std.specs.List.{list_any}
 use Rattle.std.proofs.lemmas.Iterator.{YieldsList-from_slice}
 use Rattle.std.proofs.lemmas.Iterator.Search.{any_from_yields_List}
 use Rattle.zw_def.specs.Tree.{begins_with_dot, ends_in_rb}
-use Rattle.zw_tree.proofs.RubyPath.{ruby_by_told}
+use Rattle.zw_def.proofs.RubyPathLemmas.{ruby_by_told}
 use Rattle.zw_tree.proofs.ruby.is_ruby.Goals as goal
 
 pub returns-then-ends_in_rb : goal.returns-then-ends_in_rb

@@ -1,6 +1,7 @@
 use Rattle.std.proofs.Common.{◌∙◌, ap, subst}
-use Rattle.zw_names.specs.Names.{IsDistinct, with_name}
-use Rattle.zw_names.proofs.Grown.{copied_more, text_at}
+use Rattle.zw_def.specs.Names.{IsDistinct, with_name}
+use Rattle.zw_def.proofs.NameLemmas.{copied_more}
+use Rattle.zw_names.proofs.NamesLemmas.{text_at}
 use Rattle.zw_names.proofs.names.Names.copy.Goals as goal
 
 pub loop-text-preserved : goal.loop-text-preserved

@@ -1,5 +1,5 @@
 use Rattle.std.proofs.Common.{◌∙◌, sym, ap, slice_get, is_some}
-use Rattle.zw_names.proofs.Grown.{named_at, is_named}
+use Rattle.zw_names.proofs.NamesLemmas.{named_at, is_named}
 use Rattle.zw_names.proofs.names.Names.find.Goals as goal
 
 pub returns-in_err-number-clause-found : goal.returns-in_err-number-clause-found

@@ -2,8 +2,9 @@ use Rattle.std.proofs.Common.{◌≡◌, ◌∷◌, ◌++◌, [], ◌∙◌, sym
 use Rattle.std.specs.List.{list_any}
 use Rattle.std.specs.Str.{bytes_eq}
 use Rattle.std.specs.String.{string_bytes}
-use Rattle.zw_names.specs.Names.{IsDistinct}
-use Rattle.zw_names.proofs.Grown.{named_at, is_named, with_name-there, with_name-new, interned, number_of_new, IsDistinct-pushed}
+use Rattle.zw_def.specs.Names.{IsDistinct}
+use Rattle.zw_names.proofs.NamesLemmas.{named_at, is_named, interned, number_of_new}
+use Rattle.zw_def.proofs.NameLemmas.{with_name-there, with_name-new, IsDistinct-pushed}
 use Rattle.zw_names.proofs.names.Names.intern.Goals as goal
 
 pub returns-in-Some-clause-named : goal.returns-in-Some-clause-named

@@ -1,5 +1,5 @@
 use Rattle.std.proofs.Common.{◌∙◌, sym}
-use Rattle.zw_names.proofs.Joined.{others_named}
+use Rattle.zw_names.proofs.CPathLemmas.{others_named}
 use Rattle.zw_names.proofs.path.CPath.text.Goals as goal
 
 pub push_names-requires : goal.push_names-requires

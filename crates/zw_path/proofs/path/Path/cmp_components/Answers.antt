@@ -1,6 +1,6 @@
 use Rattle.std.proofs.Common.{map, string_bytes, ap, ◌∙◌}
 use Rattle.zw_def.specs.Path.{path_cmp}
-use Rattle.zw_path.proofs.Compared.{cmp-map}
+use Rattle.zw_def.proofs.PathLemmas.{cmp-map}
 use Rattle.zw_path.proofs.path.Path.cmp_components.Goals as goal
 
 pub returns : goal.returns

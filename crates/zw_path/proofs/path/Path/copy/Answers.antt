@@ -1,5 +1,5 @@
 use Rattle.std.proofs.Common.{string_bytes, ◌∙◌}
-use Rattle.zw_path.proofs.Pieces.{front_more}
+use Rattle.zw_lemmas.proofs.ListLemmas.{front_more}
 use Rattle.zw_path.proofs.path.Path.copy.Goals as goal
 
 pub loop-component-preserved : goal.loop-component-preserved

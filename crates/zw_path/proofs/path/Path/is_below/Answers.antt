@@ -1,6 +1,6 @@
 use Rattle.std.proofs.Common.{string_bytes, ◌∙◌, sym, arith}
 use Rattle.std.proofs.lemmas.Bool.{le-ltb}
-use Rattle.zw_path.proofs.Compared.{below-longer, below-shorter}
+use Rattle.zw_def.proofs.PathLemmas.{below-longer, below-shorter}
 use Rattle.zw_path.proofs.path.Path.is_below.Goals as goal
 
 pub returns-then-len : goal.returns-then-len

@@ -1,5 +1,5 @@
 use Rattle.std.proofs.Common.{◌≡◌, None, map, string_bytes}
-use Rattle.zw_path.specs.Fault.{first_fault}
+use Rattle.zw_path.specs.BadPath.{first_bad}
 use Rattle.zw_path.proofs.path.Path.parse.Given as goal
 
 abbrev pub invariant-loop-piece : goal.invariant-loop-piece
@@ -7,4 +7,4 @@ invariant-loop-piece l =
     (goal.iterator-loop-piece).can_next l.piece-iterator ×
     (goal.iterator-loop-piece).is_finite l.piece-iterator ×
     (map string_bytes l.components.items ≡ map (λ piece. piece.now) l.yielded) ×
-    (first_fault (map (λ piece. piece.now) l.yielded) ≡ None)
+    (first_bad (map (λ piece. piece.now) l.yielded) ≡ None)

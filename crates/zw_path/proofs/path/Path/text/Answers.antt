@@ -1,5 +1,6 @@
 use Rattle.std.proofs.Common.{◌-◌, ◌∷◌, [], ◌++◌, string_bytes, ap, sym, ◌∙◌, length, lit<, append_assoc}
-use Rattle.zw_path.proofs.Pieces.{read_after, joined_more}
+use Rattle.zw_lemmas.proofs.ListLemmas.{read_after}
+use Rattle.zw_def.proofs.PieceLemmas.{joined_more}
 use Rattle.zw_path.proofs.path.Path.text.Goals as goal
 
 pub loop-component-preserved : goal.loop-component-preserved

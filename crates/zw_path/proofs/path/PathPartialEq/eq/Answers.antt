@@ -1,6 +1,6 @@
 use Rattle.std.proofs.Common.{string_bytes, ◌∙◌}
 use Rattle.zw_def.specs.Path.{same_path}
-use Rattle.zw_path.proofs.Compared.{same-map}
+use Rattle.zw_def.proofs.PathLemmas.{same-map}
 use Rattle.zw_path.proofs.path.PathPartialEq.eq.Goals as goal
 
 pub returns : goal.returns

@@ -1,6 +1,6 @@
 use Rattle.std.proofs.Common.{◌≡◌, string_bytes, ◌∙◌, sym}
 use Rattle.zw_def.specs.Pattern.{is_double_star, matches_part, matches}
-use Rattle.zw_path.proofs.Cutting.{can_cut-map, stands_for}
+use Rattle.zw_def.proofs.PatternLemmas.{can_cut-map, stands_for}
 use Rattle.zw_path.proofs.pattern.Pattern.matches.Goals as goal
 
 pub returns-clause-value : goal.returns-clause-value

@@ -5,9 +5,10 @@ use Rattle.std.specs.Ordering.{is_lt}
 use Rattle.zw_def.specs.Path.{path_cmp, precedes}
 use Rattle.zw_def.specs.Tree.{File as TreeFile}
 use Rattle.zw_tree.specs.Rising.{IsRising}
-use Rattle.zw_tree.specs.Seen.{file_seen}
+use Rattle.zw_tree.specs.File.{file_seen}
 use Rattle.zw_tree.specs.declared.tree.File.{File}
-use Rattle.zw_tree.proofs.Halves.{place_from, lent_first}
+use Rattle.zw_tree.proofs.HalvesLemmas.{place_from}
+use Rattle.zw_lemmas.proofs.FindLemmas.{find-lent}
 use Rattle.zw_tree.proofs.tree.Tree.first_from.Goals as goal
 
 pub returns-clause-first : goal.returns-clause-first
@@ -18,6 +19,6 @@ returns-clause-first c =
     let same = c.deref-2.ensures.value ∙ sym c.deref.ensures.value in
     let parted = c.partition_point-place.ensures.partitioned (λ (file : File). is_lt (path_cmp file.path path)) (always_returns_same _ _ _ (λ a r f k. search (rules, of_calls))) in
     let place = place_from file_seen c.deref.result.now c.partition_point-place.result path up c.partition_point-place.ensures.bound parted in
-    lent_first file_seen c.deref-2.result.now c.partition_point-place.result test c.get.result c.get.ensures.lookup (ap (λ files. position_or_len test (map file_seen files)) same ∙ place)
+    find-lent file_seen c.deref-2.result.now c.partition_point-place.result test c.get.result c.get.ensures.lookup (ap (λ files. position_or_len test (map file_seen files)) same ∙ place)
     ∙ ap (λ files. find test (map file_seen files)) c.deref-2.ensures.value
     ∙ ap (find test) c.self.view_is

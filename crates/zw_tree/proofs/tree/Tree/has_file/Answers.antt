@@ -2,10 +2,10 @@ use Rattle.std.proofs.Common.{◌≡◌, rules, tests, ◌∙◌, ap, sym, map, 
 use Rattle.std.specs.Ordering.{is_eq}
 use Rattle.zw_def.specs.Path.{same_path, path_cmp}
 use Rattle.zw_def.specs.Tree.{File}
-use Rattle.zw_tree.specs.Seen.{file_seen}
-use Rattle.zw_tree.proofs.Mapped.{answered, passes}
-use Rattle.zw_tree.proofs.Order.{same_tied, same_behind, same_between}
-use Rattle.zw_tree.proofs.Rising.{any_at_first}
+use Rattle.zw_tree.specs.File.{file_seen}
+use Rattle.zw_lemmas.proofs.OptionLemmas.{answered, passes}
+use Rattle.zw_def.proofs.PathOrderLemmas.{same_tied, same_behind, same_between}
+use Rattle.zw_tree.proofs.RisingLemmas.{any_at_first}
 use Rattle.zw_tree.proofs.tree.Tree.has_file.Goals as goal
 
 pub returns : goal.returns

@@ -4,7 +4,7 @@ use Rattle.std.proofs.lemmas.Iterator.Search.{any_from_yields_List}
 use Rattle.std.specs.List.{list_any}
 use Rattle.zw_def.specs.Path.{same_path}
 use Rattle.zw_def.specs.Tree.{File}
-use Rattle.zw_tree.proofs.Fronts.{told_fronts}
+use Rattle.zw_def.proofs.DirectoryLemmas.{told_fronts}
 use Rattle.zw_tree.proofs.tree.Tree.is_below_file.Goals as goal
 
 pub returns : goal.returns

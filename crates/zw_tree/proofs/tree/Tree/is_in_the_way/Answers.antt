@@ -2,7 +2,7 @@ use Rattle.std.proofs.Common.{◌||◌, ◌∙◌, ap, sym}
 use Rattle.std.specs.List.{list_any}
 use Rattle.zw_def.specs.Path.{is_below}
 use Rattle.zw_def.specs.Tree.{File}
-use Rattle.zw_tree.proofs.Fronts.{in_the_way_parts}
+use Rattle.zw_def.proofs.DirectoryLemmas.{in_the_way_parts}
 use Rattle.zw_tree.proofs.tree.Tree.is_in_the_way.Goals as goal
 
 pub returns-then-is_taken : goal.returns-then-is_taken

@@ -2,10 +2,10 @@ use Rattle.std.proofs.Common.{rules, tests, ◌∙◌, ap, sym, not}
 use Rattle.std.specs.List.{find}
 use Rattle.zw_def.specs.Path.{precedes}
 use Rattle.zw_def.specs.Tree.{File}
-use Rattle.zw_tree.specs.Seen.{file_seen}
-use Rattle.zw_tree.proofs.Mapped.{answered, passes}
-use Rattle.zw_tree.proofs.Order.{is_within, within_behind, within_between}
-use Rattle.zw_tree.proofs.Rising.{any_at_first}
+use Rattle.zw_tree.specs.File.{file_seen}
+use Rattle.zw_lemmas.proofs.OptionLemmas.{answered, passes}
+use Rattle.zw_def.proofs.PathOrderLemmas.{is_within, within_behind, within_between}
+use Rattle.zw_tree.proofs.RisingLemmas.{any_at_first}
 use Rattle.zw_tree.proofs.tree.Tree.is_taken.Goals as goal
 
 pub returns : goal.returns

@@ -3,10 +3,10 @@ use Rattle.std.proofs.lemmas.Fn.{always_returns_same}
 use Rattle.std.specs.Ordering.{is_le}
 use Rattle.zw_def.specs.Path.{path_cmp}
 use Rattle.zw_tree.specs.Rising.{IsRising}
-use Rattle.zw_tree.specs.Seen.{file_seen}
+use Rattle.zw_tree.specs.File.{file_seen}
 use Rattle.zw_tree.specs.declared.tree.File.{File}
-use Rattle.zw_tree.proofs.Halves.{place_behind}
-use Rattle.zw_tree.proofs.Place.{place_in}
+use Rattle.zw_tree.proofs.HalvesLemmas.{place_behind}
+use Rattle.zw_tree.proofs.PlaceLemmas.{place_in}
 use Rattle.zw_tree.proofs.tree.Tree.place_of.Goals as goal
 
 pub returns : goal.returns

@@ -1,9 +1,9 @@
 use Rattle.std.proofs.Common.{◌∙◌, ap, map, refl, sym, arith, subst}
 use Rattle.zw_tree.specs.Rising.{IsRising}
-use Rattle.zw_tree.specs.Seen.{file_seen}
+use Rattle.zw_tree.specs.File.{file_seen}
 use Rattle.zw_tree.specs.declared.tree.File.{File}
-use Rattle.zw_tree.proofs.Place.{place_in, told_with_file, told_size, place_within}
-use Rattle.zw_tree.proofs.Rising.{rising_with_file}
+use Rattle.zw_tree.proofs.PlaceLemmas.{place_in, told_with_file, told_size, place_within}
+use Rattle.zw_tree.proofs.RisingLemmas.{rising_with_file}
 use Rattle.zw_tree.proofs.tree.Tree.put.Goals as goal
 
 pub insert-requires : goal.insert-requires

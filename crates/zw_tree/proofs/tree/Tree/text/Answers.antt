@@ -3,10 +3,10 @@ use Rattle.std.specs.List.{find}
 use Rattle.std.specs.Option.{option_map}
 use Rattle.zw_def.specs.Path.{same_path, precedes}
 use Rattle.zw_def.specs.Tree.{File}
-use Rattle.zw_tree.specs.Seen.{file_seen}
-use Rattle.zw_tree.proofs.Mapped.{behind-map, mapped_twice, left_kept, kept}
-use Rattle.zw_tree.proofs.Order.{same_behind, same_between}
-use Rattle.zw_tree.proofs.Rising.{find_at_first}
+use Rattle.zw_tree.specs.File.{file_seen}
+use Rattle.zw_lemmas.proofs.OptionLemmas.{behind-map, option_map-twice, left_kept, kept}
+use Rattle.zw_def.proofs.PathOrderLemmas.{same_behind, same_between}
+use Rattle.zw_tree.proofs.RisingLemmas.{find_at_first}
 use Rattle.zw_tree.proofs.tree.Tree.text.Goals as goal
 
 pub returns : goal.returns
@@ -18,5 +18,5 @@ returns c =
     ∙ ap (kept (λ (f : File). same_path f.path path)) (c.first_from.ensures.first ∙ ap (λ p. find (λ (f : File). not (precedes f.path p)) tree) c.components.ensures.value)
     ∙ sym (find_at_first path (λ p. same_path p path) (same_behind path) (same_between path) tree c.first_from.ensures.rising) in
     behind-map (λ x. x.now.text.items) (λ y. y.now) _ c.filter.result c.map.result c.map.ensures.cases (λ x y k. search (rules, tests))
-    ∙ mapped_twice (λ x. file_seen x.now) (λ f. f.text) c.filter.result
+    ∙ option_map-twice (λ x. file_seen x.now) (λ f. f.text) c.filter.result
     ∙ ap (option_map (λ (f : File). f.text)) found
