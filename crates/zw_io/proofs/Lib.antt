@@ -1,4 +1,2 @@
-pub mod ToldLemmas
-pub mod LineLemmas
-pub mod LineSteps
-pub mod FolderLemmas
+pub mod LineStepLemmas
+pub mod DrawnLemmas

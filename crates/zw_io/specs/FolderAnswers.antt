@@ -1,9 +1,9 @@
 -- What the calls of a folder answer.
-use Rattle.std.specs.Prelude.{◌≡◌, ◌+◌, ◌++◌, ◌≤◌, ℕ, List, Bool, true, false, Option, Some, None, Result, Ok, Err, option_map, slice_get, length, take, map, String, string_bytes, Vec}
+use Rattle.std.specs.Prelude.{◌≡◌, ◌+◌, ◌++◌, ◌≤◌, ℕ, List, Bool, true, false, Option, Some, None, Result, Ok, Err, option_map, IfSome, slice_get, length, take, map, String, string_bytes, Vec}
 use Rattle.std.specs.declared.alloc.Global.{Global}
 use Rattle.zw_def.specs.Text.{Text}
-use Rattle.zw_def.specs.Folder.{Listing}
-use Rattle.zw_io.specs.Told.{Rose}
+use Rattle.zw_def.specs.Folder.{Listing, bytes_at}
+use Rattle.zw_def.specs.Told.{Rose}
 use Rattle.zw_io.specs.declared.folder.Fail.{Fail}
 use Rattle.zw_io.specs.declared.folder.Fail.TheVariants.{Failed, Memory}
 
@@ -13,7 +13,8 @@ pairs files = map (λ f. (string_bytes f.0, f.1.items)) files
 
 -- the next listed path, or the listing's end
 abbrev pub Lists : Result Bool Fail → Listing → Text → Listing → Type 0
-Lists (Ok true) old into new = (option_map (λ f. f.0) (slice_get old.files old.place) ≡ Some into) × (new ≡ record old { place = old.place + 1 })
+Lists (Ok true) old into new =
+    (option_map (λ f. f.0) (slice_get old.files old.place) ≡ Some into) × (new ≡ record old { place = old.place + 1 })
 Lists (Ok false) old into new = (length old.files ≤ old.place) × (new ≡ old)
 Lists (Err e) old into new = new ≡ old
 
@@ -29,6 +30,10 @@ AppendsFile true most old new (Some bytes) = new ≡ old ++ take most bytes
 AppendsFile true most old new None = ⊥
 AppendsFile false most old new (Some bytes) = ⊥
 AppendsFile false most old new None = new ≡ old
+
+-- the same of the file with this path, where the folder tells its files
+abbrev pub FindsIfTold : Bool → ℕ → Text → Option Listing → Text → Text → Type 0
+FindsIfTold there most path told old new = IfSome told (λ l. AppendsFile there most old new (bytes_at path l.files))
 
 -- the count rose exactly where the folder failed, and stays where memory ran out
 abbrev pub CountsFail : {T : Type 0} → Result T Fail → ℕ → ℕ → Type 0

@@ -1,5 +1,5 @@
-pub mod Told
 pub mod FolderAnswers
 pub mod LineAnswers
 pub mod State
+pub mod Drawn
 pub mod Fakes

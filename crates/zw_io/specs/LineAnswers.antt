@@ -1,20 +1,12 @@
 -- What the lines of a source answer.
 use Rattle.std.specs.Prelude.{◌≡◌, ◌≤◌, ◌<◌, ◌+◌, ℕ, [], ◌∷◌, Bool, true, false, Option, Some, None, Result, Ok, Err, IfSome, option_map, if◌then◌else◌, nat_lt, ◌++◌, length, take}
 use Rattle.zw_def.specs.Text.{Text}
-use Rattle.zw_def.specs.Line.{line_of, after_line, line_size}
-use Rattle.zw_io.specs.Told.{Rose}
+use Rattle.zw_def.specs.Line.{line_of, after_line, line_size, IsWithinLine, HasLineFeed}
+use Rattle.zw_def.specs.Told.{Rose}
 use Rattle.zw_io.specs.declared.lines.LineEnd.{LineEnd}
 use Rattle.zw_io.specs.declared.lines.LineEnd.TheVariants.{Line, TooLong, End}
 use Rattle.zw_io.specs.declared.lines.LinesFault.{LinesFault}
 use Rattle.zw_io.specs.declared.lines.LinesFault.TheVariants.{ReadFault, TooMuch, Memory}
-
--- the bytes have no LF
-abbrev pub IsWithinLine : Text → Type 0
-IsWithinLine bytes = line_of bytes ≡ bytes
-
--- the first line ends with an LF, not with the bytes
-abbrev pub HasLineFeed : Text → Type 0
-HasLineFeed bytes = length (line_of bytes) < line_size bytes
 
 -- the first line is taken, where room more bytes may be: `into` has the line, or the front of a long one
 pub record TakesLine (bytes : Text) (room : ℕ) (into : Text) (later : Option Text) (left : ℕ) : Type 0 where
@@ -33,8 +25,10 @@ pub record StopsWithin (bytes : Text) (later : Option Text) : Type 0 where
 
 -- what the answer says, where the source tells what was left
 abbrev pub Answers : Result LineEnd LinesFault → Text → ℕ → Text → Option Text → ℕ → Type 0
-Answers (Ok Line) bytes room into later left = TakesLine bytes room into later left × (length (line_of bytes) ≤ 1048576)
-Answers (Ok TooLong) bytes room into later left = TakesLine bytes room into later left × (1048576 < length (line_of bytes))
+Answers (Ok Line) bytes room into later left =
+    TakesLine bytes room into later left × (length (line_of bytes) ≤ 1048576)
+Answers (Ok TooLong) bytes room into later left =
+    TakesLine bytes room into later left × (1048576 < length (line_of bytes))
 Answers (Ok End) bytes room into later left = (bytes ≡ []) × (later ≡ Some []) × (left ≡ room)
 Answers (Err TooMuch) bytes room into later left = room < line_size bytes
 Answers (Err ReadFault) bytes room into later left = StopsWithin bytes later

@@ -1,6 +1,6 @@
 -- What the lines of a source have left.
 use Rattle.std.specs.Prelude.{ℕ, List, Option}
-use Rattle.zw_io.specs.Told.{held_then, until_end}
+use Rattle.zw_def.specs.Told.{held_then, until_end}
 use Rattle.zw_io.specs.declared.lines.Lines.{Lines}
 
 module _ {S : Type 0} where

@@ -1,6 +1,6 @@
 // The bytes taken from a source and not yet given.
 ghost use Rattle.std.specs.Prelude.{◌≡◌, ◌≤◌, ◌<◌, ◌∷◌, [], length, ◌≢◌, IfOk, OnOk, OnErr, IfSome, IsTrue, ◌↔◌, take};
-ghost use Rattle.zw_io.specs.Told.{HasCause, held_then};
+ghost use Rattle.zw_def.specs.Told.{HasCause, held_then};
 
 use crate::{Failed, Source};
 use std::marker::Model;

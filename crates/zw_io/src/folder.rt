@@ -1,7 +1,7 @@
 // Where files come from.
 ghost use Rattle.std.specs.Prelude.{◌≡◌, ℕ, Option, IfOk, IfSome, IsTrue, option_map};
 ghost use Rattle.zw_def.specs.Folder.{Listing, bytes_at};
-ghost use Rattle.zw_io.specs.FolderAnswers.{ListsIfTold, AppendsFile, AppendsMost, CountsFail, SetsPath, pairs};
+ghost use Rattle.zw_io.specs.FolderAnswers.{ListsIfTold, FindsIfTold, AppendsMost, CountsFail, SetsPath, pairs};
 
 /// Why a call of a folder gives nothing: the folder failed and counted it, or memory ran out.
 #[derive(Clone, Copy, Debug, PartialEq, Eq)]
@@ -27,12 +27,14 @@ pub trait Folder {
 
     /// Appends at most so many bytes of the front of a file. False says that there is none.
     fn read(&mut self, path: &str, most: usize, into: &mut Vec<u8>) -> Result<bool, Fail>
-        ensures found { IfOk result (λ there. IfSome (listing self.old) (λ l. AppendsFile there most into.old.items into.new.items (bytes_at path.now l.files))) }
+        ensures found { IfOk result (λ there.
+            FindsIfTold there most path.now (listing self.old) into.old.items into.new.items) }
         ensures same { listing self.new ≡ listing self.old }
         ensures cause { CountsFail result (faults self.old) (faults self.new) };
 }
 
-/// Files in memory. It fails at the calls numbered in `fails`, from 1, where the calls of all methods are numbered together.
+/// Files in memory. It fails at the calls numbered in `fails`, from 1, where the calls of all methods are numbered
+/// together.
 #[derive(Drop)]
 pub struct MemFolder {
     files: Vec<(String, Vec<u8>)>,
@@ -95,21 +97,17 @@ fn append(into: &mut Vec<u8>, bytes: &[u8], most: usize) -> Result<(), Fail>
     ensures { AppendsMost result most into.old.items bytes.now into.new.items }
 {
     let n = bytes.len().min(most);
-    match into.extend_from_slice(&bytes[..n]) {
-        Ok(()) => Ok(()),
-        Err(_) => Err(Fail::Memory),
-    }
+    into.extend_from_slice(&bytes[..n])
+        .map_err(|_| Fail::Memory)
 }
 
-// Puts a path in place of what was held.
-pub fn set_path(into: &mut Vec<u8>, path: &str) -> Result<(), Fail>
+/// Puts a path in place of what was held.
+pub(crate) fn set_path(into: &mut Vec<u8>, path: &str) -> Result<(), Fail>
     ensures { SetsPath result path.now into.new.items }
 {
     into.clear();
-    match into.extend_from_slice(path.as_bytes()) {
-        Ok(()) => Ok(()),
-        Err(_) => Err(Fail::Memory),
-    }
+    into.extend_from_slice(path.as_bytes())
+        .map_err(|_| Fail::Memory)
 }
 
 impl Folder for MemFolder {
@@ -121,31 +119,21 @@ impl Folder for MemFolder {
     ghost faults = { folder_faults };
 
     fn next_path(&mut self, into: &mut Vec<u8>) -> Result<bool, Fail> {
-        if let Err(fail) = self.start() {
-            return Err(fail);
-        }
-        match self.files.get(self.place) {
-            None => Ok(false),
-            Some(file) => match set_path(into, file.0.as_str()) {
-                Ok(()) => {
-                    self.place += 1;
-                    Ok(true)
-                }
-                Err(fail) => Err(fail),
-            },
-        }
+        self.start()?;
+        let Some(file) = self.files.get(self.place) else {
+            return Ok(false);
+        };
+        set_path(into, file.0.as_str())?;
+        self.place += 1;
+        Ok(true)
     }
 
     fn read(&mut self, path: &str, most: usize, into: &mut Vec<u8>) -> Result<bool, Fail> {
-        if let Err(fail) = self.start() {
-            return Err(fail);
-        }
-        match bytes_of(self.files.as_slice(), path) {
-            None => Ok(false),
-            Some(bytes) => match append(into, bytes, most) {
-                Ok(()) => Ok(true),
-                Err(fail) => Err(fail),
-            },
-        }
+        self.start()?;
+        let Some(bytes) = bytes_of(self.files.as_slice(), path) else {
+            return Ok(false);
+        };
+        append(into, bytes, most)?;
+        Ok(true)
     }
 }

@@ -22,6 +22,3 @@ pub use output::{Out, WriteFault};
 pub use real::{RealFolder, RealSink, RealSource};
 pub use sink::{MemSink, Sink};
 pub use source::{Failed, MemSource, Source};
-
-#[cfg(test)]
-mod tests;

@@ -1,7 +1,9 @@
 // The lines of a stream.
-ghost use Rattle.std.specs.Prelude.{◌≡◌, ◌≢◌, ◌+◌, [], true, false, OnOk, OnErr, IfOk, IfErr, IfSome, None, Err, nat_lt, if◌then◌else◌};
+ghost use Rattle.std.specs.Prelude.{◌≡◌, ◌≢◌, ◌+◌, [], true, false, OnOk, OnErr, IfOk, IsOk, IfErr, IfSome, None, Err, nat_lt, if◌then◌else◌};
 ghost use Rattle.std.specs.Result.{result_err};
+ghost use Rattle.zw_def.specs.Line.{HasLineFeed};
 ghost use Rattle.zw_io.specs.State.{bytes_left};
+ghost use Rattle.zw_io.specs.Drawn.{DrawsFrom, IsSound, Pops};
 ghost use Rattle.zw_io.specs.LineAnswers.{Answers, MeetsEnd, Steps, StepsToEnd, Counts, Spends, kept_with};
 
 use crate::Source;
@@ -51,6 +53,7 @@ impl<'a, S: Source> Lines<'a, S> {
         ensures begun { result.is_ended ≡ false }
         ensures left { bytes_left S.left result ≡ S.left source.old }
         ensures fresh { result.refused ≡ None }
+        ensures sound { IsSound S.left result }
     {
         Lines {
             source,
@@ -74,6 +77,11 @@ impl<'a, S: Source> Lines<'a, S> {
         ensures fault { IfErr result (λ e. e ≡ LinesFault.ReadFault) }
         ensures cause { Counts result (S.faults self.old.source.now) (S.faults self.new.source.now) }
         ensures refused { self.new.refused ≡ self.old.refused }
+        ensures draws { DrawsFrom S.left self.old self.new }
+        ensures sound { IsSound S.left self.old → IsSound S.left self.new }
+        ensures held { self.old.block ≢ [] → (self.new.block ≡ self.old.block) × IsOk result }
+        ensures unasked { self.old.block ≢ [] → self.new.source.now ≡ self.old.source.now }
+        ensures over { self.old.is_ended ≡ true → self.new.source.now ≡ self.old.source.now }
     {
         if self.is_ended || !self.block.is_empty() {
             return Ok(());
@@ -89,12 +97,19 @@ impl<'a, S: Source> Lines<'a, S> {
     // The next byte, and None at the end of input.
     fn next_byte(&mut self) -> Result<Option<u8>, LinesFault>
         ensures same_source { self.new.source.ghost_name ≡ self.old.source.ghost_name }
-        ensures step { Steps result (bytes_left S.left self.old) self.old.room (bytes_left S.left self.new) self.new.room }
+        ensures step { Steps result (bytes_left S.left self.old) self.old.room
+            (bytes_left S.left self.new) self.new.room }
         ensures met { StepsToEnd result self.old.is_ended self.new.is_ended }
-        ensures drained { IfErr result (λ fault. fault ≡ LinesFault.ReadFault → bytes_left S.left self.new ≡ S.left self.new.source.now) }
+        ensures drained { IfErr result (λ fault.
+            fault ≡ LinesFault.ReadFault → bytes_left S.left self.new ≡ S.left self.new.source.now) }
         ensures cause { Counts result (S.faults self.old.source.now) (S.faults self.new.source.now) }
         ensures room { IfOk result (λ r. IfSome r (λ _. self.new.room + 1 ≡ self.old.room)) }
         ensures refused { self.new.refused ≡ self.old.refused }
+        ensures draws { DrawsFrom S.left self.old self.new }
+        ensures sound { IsSound S.left self.old → IsSound S.left self.new }
+        ensures held { self.old.block ≢ [] → Pops result self.old.block self.new.block }
+        ensures unasked { self.old.block ≢ [] → self.new.source.now ≡ self.old.source.now }
+        ensures over { self.old.is_ended ≡ true → self.new.source.now ≡ self.old.source.now }
     {
         self.refill()?;
         if self.block.is_empty() {
@@ -114,34 +129,32 @@ impl<'a, S: Source> Lines<'a, S> {
         ensures same_source { self.new.source.ghost_name ≡ self.old.source.ghost_name }
         ensures answer { IfSome (bytes_left S.left self.old) (λ bytes.
             Answers result bytes self.old.room into.new.items (bytes_left S.left self.new) self.new.room) }
-        ensures met { IfSome (bytes_left S.left self.old) (λ bytes. MeetsEnd result bytes self.old.is_ended self.new.is_ended) }
-        ensures drained { IfErr result (λ fault. fault ≡ LinesFault.ReadFault → bytes_left S.left self.new ≡ S.left self.new.source.now) }
+        ensures met { IfSome (bytes_left S.left self.old) (λ bytes.
+            MeetsEnd result bytes self.old.is_ended self.new.is_ended) }
+        ensures drained { IfErr result (λ fault.
+            fault ≡ LinesFault.ReadFault → bytes_left S.left self.new ≡ S.left self.new.source.now) }
         ensures cause { Counts result (S.faults self.old.source.now) (S.faults self.new.source.now) }
         ensures room { IfOk result (λ end. Spends end self.old.room self.new.room) }
         ensures refused { self.new.refused ≡ self.old.refused }
+        ensures draws { DrawsFrom S.left self.old self.new }
+        ensures sound { IsSound S.left self.old → IsSound S.left self.new }
+        ensures unasked { HasLineFeed self.old.block → self.new.source.now ≡ self.old.source.now }
+        ensures over { self.old.is_ended ≡ true → self.new.source.now ≡ self.old.source.now }
     {
         let start = self.room;
         'bytes: loop {
-            match self.next_byte() {
-                Err(fault) => return Err(fault),
-                Ok(None) => {
-                    if self.room == start {
-                        return Ok(LineEnd::End);
-                    }
-                    return Ok(ended(into.len()));
-                }
-                Ok(Some(b'\n')) => return Ok(ended(into.len())),
-                Ok(Some(byte)) => match keep(into, byte) {
-                    Ok(()) => {}
-                    Err(_) => return Err(LinesFault::Memory),
-                },
+            match self.next_byte()? {
+                None if self.room == start => return Ok(LineEnd::End),
+                None => return Ok(ended(into.len())),
+                Some(b'\n') => return Ok(ended(into.len())),
+                Some(byte) => keep(into, byte)?,
             }
         }
     }
 
     /// Puts the next line, without its LF, in place of what `into` held: the whole line, or its first 1,048,577 bytes
-    /// where it is too long. A refusal is answered again by every later call. Once the end of input is met, the source is
-    /// asked no more.
+    /// where it is too long. A refusal is answered again by every later call. Once the end of input is met, the source
+    /// is asked no more.
     pub fn next_line(&mut self, into: &mut Vec<u8>) -> Result<LineEnd, LinesFault>
         ensures same_source { self.new.source.ghost_name ≡ self.old.source.ghost_name }
         ensures answer { self.old.refused ≡ None → IfSome (bytes_left S.left self.old) (λ bytes.
@@ -152,8 +165,17 @@ impl<'a, S: Source> Lines<'a, S> {
         // After a failed read no byte is held: what is left is what the source has left.
         ensures drained { self.old.refused ≡ None → IfErr result (λ fault.
             fault ≡ LinesFault.ReadFault → bytes_left S.left self.new ≡ S.left self.new.source.now) }
-        ensures cause { self.old.refused ≡ None → Counts result (S.faults self.old.source.now) (S.faults self.new.source.now) }
-        ensures again { IfSome self.old.refused (λ fault. (result ≡ Err fault) × (S.faults self.new.source.now ≡ S.faults self.old.source.now)) }
+        ensures cause { self.old.refused ≡ None →
+            Counts result (S.faults self.old.source.now) (S.faults self.new.source.now) }
+        ensures again { IfSome self.old.refused (λ fault.
+            (result ≡ Err fault) × (self.new.source.now ≡ self.old.source.now)) }
+        // Whatever the answer, the source has left what it had but for what was taken, at most one byte past the room.
+        ensures draws { DrawsFrom S.left self.old self.new }
+        ensures sound { IsSound S.left self.old → IsSound S.left self.new }
+        // A line that stands whole in the bytes that are held is answered without a call of the source, and so is each
+        // line once the end of input is met.
+        ensures unasked { HasLineFeed self.old.block → self.new.source.now ≡ self.old.source.now }
+        ensures over { self.old.is_ended ≡ true → self.new.source.now ≡ self.old.source.now }
         // Each line spends room, so that a loop over the lines ends.
         ensures room { IfOk result (λ end. Spends end self.old.room self.new.room) }
         ensures refused { self.new.refused ≡ result_err result }

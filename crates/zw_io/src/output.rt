@@ -1,6 +1,6 @@
 // Output in whole pieces.
 ghost use Rattle.std.specs.Prelude.{◌≡◌, ◌≤◌, ◌<◌, ℕ, List, length, take, OnOk, OnErr};
-ghost use Rattle.zw_io.specs.Told.{HasCause, Appends, AppendsFront};
+ghost use Rattle.zw_def.specs.Told.{HasCause, Appends, AppendsFront};
 
 use crate::Sink;
 

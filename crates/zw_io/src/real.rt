@@ -1,6 +1,6 @@
 // The process's own input, output and folder. They tell no contents.
 ghost use Rattle.std.specs.Prelude.{◌≡◌, Err, None};
-ghost use Rattle.zw_io.specs.Told.{Rose};
+ghost use Rattle.zw_def.specs.Told.{Rose};
 ghost use Rattle.zw_io.specs.FolderAnswers.{CountsFail};
 
 use crate::folder::set_path;
@@ -141,10 +141,7 @@ impl<R: Files + AllocGlobal + Clone + Drop> RealFolder<R> {
         ensures { CountsFail result self.old.faults self.new.faults }
     {
         match entries_of(&self.rt, directory) {
-            Ok(mut entries) => match self.pending.append(&mut entries) {
-                Ok(()) => Ok(()),
-                Err(_) => Err(Fail::Memory),
-            },
+            Ok(mut entries) => self.pending.append(&mut entries).map_err(|_| Fail::Memory),
             Err(error) => Err(self.fault(&error)),
         }
     }
@@ -157,15 +154,11 @@ impl<R: Files + AllocGlobal + Clone + Drop> RealFolder<R> {
             return Ok(Step::End);
         };
         if entry.is_directory {
-            return match self.enter(entry.path.as_str()) {
-                Ok(()) => Ok(Step::Directory),
-                Err(fail) => Err(fail),
-            };
+            self.enter(entry.path.as_str())?;
+            return Ok(Step::Directory);
         }
-        match set_path(into, entry.path.as_str()) {
-            Ok(()) => Ok(Step::File),
-            Err(_) => Err(Fail::Memory),
-        }
+        set_path(into, entry.path.as_str())?;
+        Ok(Step::File)
     }
 
     // Lists the next file.
@@ -174,16 +167,13 @@ impl<R: Files + AllocGlobal + Clone + Drop> RealFolder<R> {
     {
         if !self.is_begun {
             self.is_begun = true;
-            if let Err(fail) = self.enter(".") {
-                return Err(fail);
-            }
+            self.enter(".")?;
         }
         'entries: for _ in 0..u64::MAX {
-            match self.step(into) {
-                Ok(Step::Directory) => {}
-                Ok(Step::File) => return Ok(true),
-                Ok(Step::End) => return Ok(false),
-                Err(fail) => return Err(fail),
+            match self.step(into)? {
+                Step::Directory => {}
+                Step::File => return Ok(true),
+                Step::End => return Ok(false),
             }
         }
         Err(self.failed())

@@ -1,6 +1,8 @@
-use Rattle.std.proofs.Common.{◌≡◌, ◌≤◌}
+use Rattle.std.proofs.Common.{◌≡◌, ◌≤◌, true}
 use Rattle.zw_io.specs.State.{bytes_left}
-use Rattle.zw_io.proofs.LineSteps.{GoesIfTold}
+use Rattle.zw_io.specs.Drawn.{DrawsFrom, IsSound}
+use Rattle.zw_def.specs.Line.{HasLineFeed}
+use Rattle.zw_io.proofs.LineStepLemmas.{GoesIfTold}
 use Rattle.zw_io.proofs.lines.Lines.cut_line.Given as goal
 
 abbrev pub invariant-bytes : goal.invariant-bytes
@@ -12,6 +14,10 @@ invariant-bytes g l = record {
   within : l.self.room ≤ l.start;
   start : l.start ≡ l.fn.self.room;
   told : GoesIfTold 1048577 (bytes_left g.S.Source.left l.fn.self) (bytes_left g.S.Source.left l.self) l.into.items l.start l.self.room;
+  draws : DrawsFrom g.S.Source.left l.fn.self l.self;
+  sound : IsSound g.S.Source.left l.fn.self → IsSound g.S.Source.left l.self;
+  unasked : HasLineFeed l.fn.self.block → (l.self.source.now ≡ l.fn.self.source.now) × HasLineFeed l.self.block;
+  over : l.fn.self.is_ended ≡ true → l.self.source.now ≡ l.fn.self.source.now;
 }
 
 abbrev pub decreases-bytes : goal.decreases-bytes

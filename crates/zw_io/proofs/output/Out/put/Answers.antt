@@ -1,6 +1,6 @@
 use Rattle.std.proofs.Common.{rules, arith}
 use Rattle.std.proofs.lemmas.List.{length-take, length-drop}
-use Rattle.zw_io.proofs.ToldLemmas.{appends_more, take_piece}
+use Rattle.zw_def.proofs.ToldLemmas.{appends_more, take_piece}
 use Rattle.zw_io.proofs.output.Out.put.Goals as goal
 
 pub pieces-preserved : goal.pieces-preserved

@@ -1,5 +1,5 @@
 use Rattle.std.proofs.Common.{◌≡◌, ◌≤◌, ◌-◌, length, take}
-use Rattle.zw_io.specs.Told.{Appends}
+use Rattle.zw_def.specs.Told.{Appends}
 use Rattle.zw_io.proofs.output.Out.put.Given as goal
 
 abbrev pub invariant-pieces : goal.invariant-pieces

@@ -1,16 +1,16 @@
 -- A line, byte by byte: what a loop over the bytes knows, and what it answers.
-use Rattle.std.proofs.Common.{◌≡◌, ◌≢◌, ◌≤◌, ◌<◌, ◌+◌, ◌++◌, cond, true, false, Bool, ℕ, [], ◌∷◌, Option, Some, None, Ok, Err, IfSome, option_map, nat_lt, length, take, refl, sym, ap, subst, append-nil, ◌∙◌, append_assoc, arith}
+use Rattle.std.proofs.Common.{◌≡◌, ◌≢◌, ◌≤◌, ◌<◌, ◌+◌, ◌++◌, cond, true, false, Bool, ℕ, [], ◌∷◌, Option, Some, None, Result, Ok, Err, IfSome, option_map, nat_lt, length, take, refl, sym, ap, subst, append-nil, ◌∙◌, append_assoc, arith}
 use Rattle.std.proofs.lemmas.Option.{same_Some}
 use Rattle.std.proofs.lemmas.List.{take_all, take-append-le, length-append, length-take}
 use Rattle.std.proofs.lemmas.Bool.Decides.{nat_tests}
 use Rattle.zw_def.specs.Text.{Text}
-use Rattle.zw_def.specs.Line.{line_of, after_line, line_size}
-use Rattle.zw_io.specs.LineAnswers.{IsWithinLine, HasLineFeed, kept_with, TakesLine, Answers, MeetsEnd, Steps}
+use Rattle.zw_def.specs.Line.{line_of, after_line, line_size, IsWithinLine, HasLineFeed}
+use Rattle.zw_io.specs.LineAnswers.{kept_with, TakesLine, Answers, MeetsEnd, Steps}
 use Rattle.zw_io.specs.declared.lines.LineEnd.{LineEnd}
 use Rattle.zw_io.specs.declared.lines.LineEnd.TheVariants.{Line, TooLong}
 use Rattle.zw_io.specs.declared.lines.LinesFault.{LinesFault}
 use Rattle.zw_io.specs.declared.lines.LinesFault.TheVariants.{ReadFault, TooMuch, Memory}
-use Rattle.zw_io.proofs.LineLemmas.{line_of-front, after_line-front, line_size-front, line_size-length, within-more}
+use Rattle.zw_def.proofs.LineLemmas.{line_of-front, after_line-front, line_size-front, line_size-length, within-more}
 
 -- a front with no LF has gone by, and into has at most n bytes of it
 pub record Goes (n : ℕ) (all rest into : Text) (start room : ℕ) : Type 0 where
@@ -76,14 +76,14 @@ ended_answers : (t : Bool) (e : LineEnd) (bytes into : Text) (room left : ℕ) (
 ended_answers true e bytes into room left later is same takes = rw same (takes, short 1048576 _ into takes.kept (grind (arith, nat_tests)))
 ended_answers false e bytes into room left later is same takes = rw same (takes, long 1048576 _ into takes.kept (grind (arith, nat_tests)))
 
-pub told_err : (e : LinesFault) (told now new : Option Text) (into : Text) (start room left : ℕ) → GoesIfTold 1048577 told now into start room → Steps (Err e) now room new left → IfSome told (λ bytes. Answers (Err e) bytes start into new left)
-told_err e None now new into start room left goes step = tt
-told_err e (Some all) None new into start room left goes step = absurd goes
-told_err Memory (Some all) (Some rest) new into start room left goes step = tt
-told_err ReadFault (Some all) (Some rest) new into start room left goes step =
-    record { front = goes.front; rest = rest; split = goes.split; within = goes.within; told = step }
-told_err TooMuch (Some all) (Some rest) new into start room left goes step =
-    omega (arith, goes.spent, step.0, line_size-length rest step.1, front_size all goes.front rest goes.split goes.within)
+pub told_err : (r : Result LineEnd LinesFault) (e : LinesFault) (told now new : Option Text) (into : Text) (start room left : ℕ) → r ≡ Err e → GoesIfTold 1048577 told now into start room → Steps (Err e) now room new left → IfSome told (λ bytes. Answers r bytes start into new left)
+told_err r e None now new into start room left is goes step = tt
+told_err r e (Some all) None new into start room left is goes step = absurd goes
+told_err r Memory (Some all) (Some rest) new into start room left is goes step = rw is tt
+told_err r ReadFault (Some all) (Some rest) new into start room left is goes step =
+    rw is (record { front = goes.front; rest = rest; split = goes.split; within = goes.within; told = step })
+told_err r TooMuch (Some all) (Some rest) new into start room left is goes step =
+    rw is (omega (arith, goes.spent, step.0, line_size-length rest step.1, front_size all goes.front rest goes.split goes.within))
 
 pub told_last : (e : LineEnd) (told now new : Option Text) (into : Text) (start room left : ℕ) → GoesIfTold 1048577 told now into start room → Steps (Ok None) now room new left → left ≢ start → room ≤ start → e ≡ cond (nat_lt (length into) 1048577) Line TooLong → IfSome told (λ bytes. Answers (Ok e) bytes start into new left)
 told_last e None now new into start room left goes step other within is = tt
