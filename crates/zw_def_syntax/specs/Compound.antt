@@ -1,5 +1,6 @@
--- The grammar of the forms that begin with a keyword and end with `end` (ISO/IEC 30170, 11.5.2, control structures, and 13,
--- classes and modules). An optional part is there exactly where its first token fits, and nothing is tried a second time.
+-- The grammar of the forms that begin with a keyword and end with `end` (ISO/IEC 30170, 11.5.2, control structures,
+-- and 13, classes and modules). An optional part is there exactly where its first token fits, and nothing is tried a
+-- second time.
 use Prim.Native.String.{String}
 use Rattle.std.specs.Prelude.{Bool, true, false, ◌==◌, ◌&&◌, ◌||◌, if◌then◌else◌, List, [], ◌∷◌, ◌++◌, codes, map, Option, Some, None, option_map, option_and_then}
 use Rattle.std.specs.Str.{bytes_eq}
@@ -97,7 +98,8 @@ pub record Arm : Type 0 where
 abbrev pub chosen : Arm → List Arm → List (Grown Tree) → Option (Grown Tree)
 chosen arm [] other = over_three (if_node test_first) arm.test (row_of arm.body) (row_of other)
 chosen arm (second ∷ more) other =
-    option_and_then (λ rest. over_three (if_node test_first) arm.test (row_of arm.body) (only rest)) (chosen second more other)
+    option_and_then (λ rest. over_three (if_node test_first) arm.test (row_of arm.body) (only rest))
+    (chosen second more other)
 
 -- `unless` is an `if` with its bodies exchanged
 abbrev pub unless_tree : Arm → List (Grown Tree) → Option (Grown Tree)
@@ -123,7 +125,8 @@ pub record Clauses : Type 0 where
 
 abbrev pub rescues_of : List Rescue → Grown Rescues
 rescues_of [] = flat no_rescues
-rescues_of (r ∷ rs) = (λ ps body more. rescue_then ps r.variable body more) <$> row_of r.paths <*> row_of r.body <*> rescues_of rs
+rescues_of (r ∷ rs) =
+    (λ ps body more. rescue_then ps r.variable body more) <$> row_of r.paths <*> row_of r.body <*> rescues_of rs
 
 abbrev pub branch_of : Option (List (Grown Tree)) → Grown Branch
 branch_of None = flat no_branch
@@ -135,7 +138,10 @@ is_bare [] None = true
 is_bare _ _ = false
 
 abbrev pub clauses_tree : Clauses → Option (Grown Tree)
-clauses_tree c = node ((λ body rescues other ensured. begin_node body rescues other ensured) <$> row_of c.body <*> rescues_of c.rescues <*> branch_of c.other <*> branch_of c.ensured)
+clauses_tree c =
+    node (
+    (λ body rescues other ensured. begin_node body rescues other ensured)
+    <$> row_of c.body <*> rescues_of c.rescues <*> branch_of c.other <*> branch_of c.ensured)
 
 -- `begin .. end`
 abbrev pub begin_tree : Clauses → Option (Grown Tree)
@@ -177,11 +183,14 @@ pub record Method : Type 0 where
 
 abbrev pub def_tree : Bool → Text → Method → Option (Grown Tree)
 def_tree on_self x m =
-    option_and_then (λ body. node ((λ ds all. (if on_self then sdef_node else def_node) x m.params.required ds all) <$> defaults_of m.params.optional <*> body))
+    option_and_then (λ body. node (
+    (λ ds all. (if on_self then sdef_node else def_node) x m.params.required ds all)
+    <$> defaults_of m.params.optional <*> body))
     (method_body m.clauses)
 
 abbrev pub class_tree : Path → Grown Perhaps → List (Grown Tree) → Option (Grown Tree)
-class_tree p above body = node ((λ base superclass all. class_node base p.name superclass all) <$> p.base <*> above <*> row_of body)
+class_tree p above body =
+    node ((λ base superclass all. class_node base p.name superclass all) <$> p.base <*> above <*> row_of body)
 
 abbrev pub module_tree : Path → List (Grown Tree) → Option (Grown Tree)
 module_tree p body = node ((λ base all. module_node base p.name all) <$> p.base <*> row_of body)
@@ -195,7 +204,9 @@ adjoins _ _ = false
 
 -- a NAME directly followed by `=` directly followed by `(`
 abbrev pub setter_next : Input → Bool
-setter_next i = sign_at "=" 1 i && sign_at "(" 2 i && adjoins (token_at 0 i) (token_at 1 i) && adjoins (token_at 1 i) (token_at 2 i)
+setter_next i =
+    sign_at "=" 1 i && sign_at "(" 2 i
+    && adjoins (token_at 0 i) (token_at 1 i) && adjoins (token_at 1 i) (token_at 2 i)
 
 -- the signs that name methods
 abbrev pub operators : String
@@ -267,7 +278,8 @@ module _ (inner : Reader) where
 
   -- ["=>" IDENT]
   unfoldable pub rescue_variable : Parser (Option Text)
-  rescue_variable = if_here (sign_next "=>") (do take_token; x ← take_name variable_of; learn x; pure (Some x)) (pure None)
+  rescue_variable =
+      if_here (sign_next "=>") (do take_token; x ← take_name variable_of; learn x; pure (Some x)) (pure None)
 
   -- "rescue" [paths] ["=>" IDENT] then program
   unfoldable pub rescue_clause : Parser Rescue
@@ -306,7 +318,9 @@ module _ (inner : Reader) where
   param p = do
     x ← take_name variable_of
     learn x
-    if_here (sign_next "=") (take_token >> inner.tree ternary_form >>= λ e. pure (with_default p x e)) (given (required_after p.optional p x))
+    if_here (sign_next "=")
+        (take_token >> inner.tree ternary_form >>= λ e. pure (with_default p x e))
+        (given (required_after p.optional p x))
 
   -- plist = param {"," param}
   unfoldable pub plist : Parser Params
@@ -343,7 +357,10 @@ module _ (inner : Reader) where
 
   -- ["<" ternary]
   unfoldable pub superclass : Parser (Grown Perhaps)
-  superclass = if_here (sign_next "<") (take_token >> inner.tree ternary_form >>= λ e. pure (present <$> e)) (pure (flat absent))
+  superclass =
+      if_here (sign_next "<")
+      (take_token >> inner.tree ternary_form >>= λ e. pure (present <$> e))
+      (pure (flat absent))
 
   -- "class" cpath ["<" ternary] seps program "end" (13.2.2)
   unfoldable pub class_rule : Parser (Grown Tree)

@@ -1,5 +1,5 @@
--- The grammar of operators, calls and what they stand on (ISO/IEC 30170, 11.3 to 11.5). An optional part is there exactly
--- where its first token fits, and nothing is tried a second time.
+-- The grammar of operators, calls and what they stand on (ISO/IEC 30170, 11.3 to 11.5). An optional part is there
+-- exactly where its first token fits, and nothing is tried a second time.
 use Rattle.std.specs.Prelude.{ℕ, pos, neg_ℤ, Bool, true, false, not, ◌&&◌, ◌||◌, if◌then◌else◌, List, [], ◌∷◌, ◌++◌, codes, Option, Some, None}
 use Rattle.std.specs.Option.{option_map_or}
 use Rattle.std.specs.Str.{bytes_eq}
@@ -29,7 +29,8 @@ pub record Segment : Type 0 where
 -- every text is kept, an empty one too
 abbrev pub parts_of : List Segment → Text → Grown Parts
 parts_of [] last = flat (text_then last no_parts)
-parts_of (s ∷ ss) last = (λ body more. text_then s.text (program_then body more)) <$> row_of s.program <*> parts_of ss last
+parts_of (s ∷ ss) last =
+    (λ body more. text_then s.text (program_then body more)) <$> row_of s.program <*> parts_of ss last
 
 -- a name without parentheses: a variable where it is known, and a call where it ends in `?` or `!`
 abbrev pub name_tree : Text → Bool → Tree
@@ -159,7 +160,8 @@ module _ (inner : Reader) where
   unfoldable pub named : Text → Parser (Grown Tree)
   named x = do
     take_token
-    if_here parens_next (parens >>= λ args. given (over (self_call x) (row_of args))) (λ i. pure (leaf (name_tree x (is_known x i))) i)
+    if_here parens_next (parens >>= λ args. given (over (self_call x) (row_of args)))
+        (λ i. pure (leaf (name_tree x (is_known x i))) i)
 
   -- "super" [parens] (11.3.4)
   unfoldable pub super_rule : Parser (Grown Tree)
@@ -223,7 +225,8 @@ module _ (inner : Reader) where
   primary_by (Some (sign s)) = sign_primary s
   primary_by (Some _) = refuse
 
-  -- primary = INT | text | SYMBOL | IVAR | CVAR | "nil" | "true" | "false" | "self" | IDENT [parens] | CONST | "::" CONST
+  -- primary = INT | text | SYMBOL | IVAR | CVAR | "nil" | "true" | "false" | "self"
+  --         | IDENT [parens] | CONST | "::" CONST
   --         | "super" [parens] | "(" program ")" | "[" [args [","]] "]" | the forms with `end` (11.5)
   unfoldable pub primary : Parser (Grown Tree)
   primary = peek >>= primary_by
@@ -284,7 +287,9 @@ module _ (inner : Reader) where
 
   -- the levels from `or` to `term`, from their first operand on (11.2 and 11.4.4)
   unfoldable pub operation_from : Grown Tree → Parser (Grown Tree)
-  operation_from first = repeated (kind_is (is_sign_of operand_signs) 0) operand [] >>= λ more. given (folded (record { first = first; more = more }))
+  operation_from first =
+      repeated (kind_is (is_sign_of operand_signs) 0) operand []
+      >>= λ more. given (folded (record { first = first; more = more }))
 
   -- "?" ternary ":" ternary
   unfoldable pub alternatives : Grown Tree → Parser (Grown Tree)

@@ -13,7 +13,7 @@ use Rattle.zw_def_syntax.specs.Expression.{argument_at, suffix_next, suffix, arg
 
 -- ---- nodes
 
--- `x op= e` sets `x` to the call of `op` on `x` with `e`, and `x ||= e` is the `||` of `x` and the assignment (11.4.2.3)
+-- `x op= e` sets `x` to the call of `op` on `x` with `e`; `x ||= e` is the `||` of `x` and the assignment (11.4.2.3)
 abbrev pub update_tree : Text → Tree → (Tree → Tree) → Grown Tree → Option (Grown Tree)
 update_tree op x set e =
     if bytes_eq op (codes "||=") then option_and_then (λ whole. over_both or_node (leaf x) whole) (over set e)
@@ -68,7 +68,8 @@ update_next i = kind_is (λ x. kind_is (is_update x) 1 i) 0 i
 
 -- `return` has no value before these
 abbrev pub ends_return : Kind → Bool
-ends_return kind = is_separator kind || is_sign (codes ")") kind || is_keyword_of "end if unless while until and or" kind
+ends_return kind =
+    is_separator kind || is_sign (codes ")") kind || is_keyword_of "end if unless while until and or" kind
 
 abbrev pub return_ends : Input → Bool
 return_ends i = option_map_or ends_return (kind_at 0 i) true
@@ -201,7 +202,8 @@ module _ (inner : Reader) where
     first ← primary inner
     r ← repeated plain_suffix_next (suffix inner) first
     if_here scoped_target_next (scoped_assignment r)
-        (if_here attribute_next (attribute_assignment r) (if_here call_command_next (call_command r) (ternary_from inner r)))
+        (if_here attribute_next (attribute_assignment r)
+        (if_here call_command_next (call_command r) (ternary_from inner r)))
 
   abbrev pub operator_next : Input → Bool
   operator_next i = sign_next "!" i || sign_next "-" i
@@ -248,7 +250,9 @@ module _ (inner : Reader) where
   -- a `begin` form alone takes no modifier `while` or `until` (a rule of this language)
   abbrev pub after_line : Bool → Grown Tree → Parser (Grown Tree)
   after_line begun body =
-      if_here (λ i. begun && is_begin_node body.form && kind_is (is_keyword_of "while until") 0 i) refuse (modifiers body)
+      if_here (λ i. begun && is_begin_node body.form && kind_is (is_keyword_of "while until") 0 i)
+      refuse
+      (modifiers body)
 
   -- stmt = line {("if"|"unless"|"while"|"until") line} (12)
   unfoldable pub statement : Parser (Grown Tree)
@@ -277,7 +281,8 @@ unfoldable pub within : ℕ → Reader
 within zero = record { tree = λ form. refuse; program = refuse }
 within (suc depth) = record { tree = rule (within depth); program = program (within depth) }
 
--- Each form that stands within another either stands in a bracket, of which 250 may be open, or is a part of a node, and nodes
+-- Each form that stands within another either stands in a bracket, of which 250 may be open, or is a part of a
+-- node, and nodes
 -- are no higher than 100. So this number never decides.
 abbrev pub max_depth : ℕ
 max_depth = 351

@@ -157,7 +157,9 @@ max_brackets = 250
 
 -- takes a token that opens a bracket
 unfoldable pub open_bracket : Parser (Unit {0})
-open_bracket = λ i. if nat_lt i.open_brackets max_brackets then Some (tt, record (next i) { open_brackets = i.open_brackets + 1 }) else None
+open_bracket = λ i.
+    if nat_lt i.open_brackets max_brackets then Some (tt, record (next i) { open_brackets = i.open_brackets + 1 })
+    else None
 
 -- takes a token that closes one
 unfoldable pub close_bracket : Parser (Unit {0})

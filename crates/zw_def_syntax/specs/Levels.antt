@@ -62,11 +62,12 @@ join sign a b =
 abbrev pub before : Grown Tree → Text → Chain → Chain
 before a sign chain = record { first = a; more = record { sign = sign; value = chain.first } ∷ chain.more }
 
--- an operand and the next one, where `more` goes on with the rest after the one at its front. Where the sign between them is
--- of the level (the last flag) the two are one. The first flag says that the operand was made so.
+-- an operand and the next one, where `more` goes on with the rest after the one at its front. Where the sign between
+-- them is of the level (the last flag) the two are one. The first flag says that the operand was made so.
 abbrev pub joined_by : Level → Bool → Grown Tree → Operand → (Bool → Grown Tree → Option Chain) → Bool → Option Chain
 joined_by level made a b more true =
-    if made && stands_alone level then None else option_and_then (λ whole. more true whole) (over_both (join b.sign) a b.value)
+    if made && stands_alone level then None
+    else option_and_then (λ whole. more true whole) (over_both (join b.sign) a b.value)
 joined_by level made a b more false = option_map (λ rest. before a b.sign rest) (more false b.value)
 
 -- the operands, with those between which a sign of the level stands made into one, from the left
@@ -88,5 +89,6 @@ o then f = option_and_then f o
 -- the tightest level first
 unfoldable pub folded : Chain → Option (Grown Tree)
 folded chain =
-    joined term_level chain then joined sum_level then joined compare_level then joined equal_level then joined and_level then joined or_level
+    joined term_level chain then joined sum_level then joined compare_level
+    then joined equal_level then joined and_level then joined or_level
     then (λ whole. only_operand whole.first whole.more)

@@ -1,25 +1,28 @@
 -- The tokens of a text: its words are told apart, and the line ends that separate no statements are dropped.
-use Rattle.std.specs.Prelude.{Bool, true, false, List, [], ◌∷◌, ◌&&◌, ◌||◌, not, if◌then◌else◌, codes, drop, Option, Some, None, Result, Ok, Err}
+use Rattle.std.specs.Prelude.{Bool, true, false, List, [], ◌∷◌, ◌++◌, ◌&&◌, ◌||◌, not, if◌then◌else◌, codes, drop, Option, Some, None, Result, Ok, Err}
 use Rattle.std.specs.Option.{option_map_or}
 use Rattle.std.specs.List.{list_any}
+use Rattle.std.specs.Char.{len_utf8}
 use Rattle.std.specs.Str.{bytes_eq, chars, is_utf8}
-use Rattle.zw_def.specs.Text.{Text, pieces}
+use Rattle.zw_def.specs.Text.{Text}
 use Rattle.zw_def_syntax.specs.Token.{Kind, Token, Fault, newline, identifier, constant, keyword, sign, not_utf8, outside_word}
-use Rattle.zw_def_syntax.specs.Character.{Characters, Place, begins}
+use Rattle.zw_def_syntax.specs.Character.{Characters, Place, begins, words, byte_order_mark}
 use Rattle.zw_def_syntax.specs.Scan.{Scanned, scanned}
 
 -- ---- words
 
 -- the keywords (ISO/IEC 30170, 8.7.2)
 unfoldable pub keywords : Text
-keywords = codes "and begin break class def do else elsif end ensure false if module next nil not or rescue return self super then true unless until while"
+keywords =
+    codes "and begin break class def do else elsif end ensure false if module "
+    ++ codes "next nil not or rescue return self super then true unless until while"
 
 -- the keywords of Ruby that this language does not have
 unfoldable pub outside_words : Text
 outside_words = codes "BEGIN END __ENCODING__ __FILE__ __LINE__ alias case defined? for in redo retry undef when yield"
 
 abbrev pub is_among : Text → Text → Bool
-is_among words word = list_any (bytes_eq word) (pieces 32 words)
+is_among all word = list_any (bytes_eq word) (words all)
 
 abbrev pub is_sign : Text → Kind → Bool
 is_sign text (sign s) = bytes_eq s text
@@ -45,7 +48,8 @@ is_singleton word later = bytes_eq word (codes "self") && first_kind (is_sign (c
 -- after these tokens a word is a plain name: directly after `.`, and directly after `def`
 abbrev pub is_name_after : Option Kind → Text → List Token → Bool
 is_name_after None word later = false
-is_name_after (Some k) word later = is_sign (codes ".") k || (is_keyword (codes "def") k && not (is_singleton word later))
+is_name_after (Some k) word later =
+    is_sign (codes ".") k || (is_keyword (codes "def") k && not (is_singleton word later))
 
 -- what a word is, where it would be of this kind as a plain name; None where the language does not have it
 abbrev pub word_kind : Kind → Bool → Text → Option Kind
@@ -112,9 +116,15 @@ settled_scan scan = up_to_fault scan.fault (settled None (without_ends_before sc
 abbrev pub first_place : Place
 first_place = record { line = 1; byte = 0; last = None }
 
--- a byte order mark at the start is passed over; it has three bytes
+-- the place after a byte order mark at the start
+abbrev pub place_after_mark : Place
+place_after_mark = record first_place { byte = len_utf8 byte_order_mark }
+
+-- a byte order mark at the start is passed over
 abbrev pub scan_of : Characters → Scanned
-scan_of cs = if begins (65279 ∷ []) cs then scanned 0 [] (record first_place { byte = 3 }) (drop 1 cs) else scanned 0 [] first_place cs
+scan_of cs =
+    if begins (byte_order_mark ∷ []) cs then scanned 0 [] place_after_mark (drop 1 cs)
+    else scanned 0 [] first_place cs
 
 unfoldable pub lexed : Text → Result (List Token) Fault
 lexed text = if is_utf8 text then settled_scan (scan_of (chars text)) else Err (record { line = 1; reason = not_utf8 })

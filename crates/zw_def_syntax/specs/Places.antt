@@ -30,7 +30,7 @@ class_body p = record p { in_loop = false; in_class = true }
 
 -- ---- what is out of place
 
--- `return` and `super` stand in a method's body, `break` and `next` in a loop's body (ISO/IEC 30170, 11.5.2.4 and 11.3.4)
+-- `return` and `super` stand in a method's body, `break` and `next` in a loop's (ISO/IEC 30170, 11.5.2.4 and 11.3.4)
 abbrev pub is_misplaced_jump : Place → Tree → Bool
 is_misplaced_jump p (return_node e) = not p.in_method
 is_misplaced_jump p (super_node args) = not p.in_method
@@ -89,18 +89,24 @@ module _ (test : Place → Tree → Bool) where
     some_node p (and_node a b) = test p (and_node a b) || some_node p a || some_node p b
     some_node p (or_node a b) = test p (or_node a b) || some_node p a || some_node p b
     some_node p (if_node order c a b) = test p (if_node order c a b) || some_node p c || some_tree p a || some_tree p b
-    some_node p (while_node order c body) = test p (while_node order c body) || some_node p c || some_tree (loop_body p) body
+    some_node p (while_node order c body) =
+        test p (while_node order c body) || some_node p c || some_tree (loop_body p) body
     some_node p (return_node e) = test p (return_node e) || some_perhaps p e
     some_node p (seq_node all) = test p (seq_node all) || some_tree p all
     some_node p (begin_node body clauses other ensured) =
-        test p (begin_node body clauses other ensured) || some_tree p body || some_rescue p clauses || some_branch p other || some_branch p ensured
+        test p (begin_node body clauses other ensured) || some_tree p body || some_rescue p clauses
+        || some_branch p other || some_branch p ensured
     some_node p (def_node x required defaults body) =
-        test p (def_node x required defaults body) || some_default (method_body p) defaults || some_tree (method_body p) body
+        test p (def_node x required defaults body) || some_default (method_body p) defaults
+        || some_tree (method_body p) body
     some_node p (sdef_node x required defaults body) =
-        test p (sdef_node x required defaults body) || some_default (method_body p) defaults || some_tree (method_body p) body
+        test p (sdef_node x required defaults body) || some_default (method_body p) defaults
+        || some_tree (method_body p) body
     some_node p (class_node base n superclass body) =
-        test p (class_node base n superclass body) || some_base p base || some_perhaps p superclass || some_tree (class_body p) body
-    some_node p (module_node base n body) = test p (module_node base n body) || some_base p base || some_tree (class_body p) body
+        test p (class_node base n superclass body) || some_base p base || some_perhaps p superclass
+        || some_tree (class_body p) body
+    some_node p (module_node base n body) =
+        test p (module_node base n body) || some_base p base || some_tree (class_body p) body
     some_node p leaf = test p leaf
 
     pub some_tree : Place → Trees → Bool

@@ -38,14 +38,17 @@ placed more line found tree None = more (found ++ record { line = line; tree = t
 placed more line found tree (Some reason) = refused line reason
 
 -- a statement that begins on the line, with its separator, and then more
-abbrev pub after_statement : (Program → Input → Parsed) → ℕ → Program → Option (Grown Tree × Input) → Parsed
+abbrev pub after_statement :
+    (Program → Input → Parsed) → ℕ → Program → Option (Grown Tree × Input) → Parsed
 after_statement more line found None = refused line malformed
 after_statement more line found (Some p) =
-    if at_end p.1 || separator_next p.1 then placed (λ all. more all p.1) line found p.0.form (fault_of p.0.form) else refused line malformed
+    if at_end p.1 || separator_next p.1 then placed (λ all. more all p.1) line found p.0.form (fault_of p.0.form)
+    else refused line malformed
 
 abbrev pub after_separators : (Program → Input → Parsed) → Program → Option (Unit {0} × Input) → Parsed
 after_separators more found None = Ok found
-after_separators more found (Some p) = if at_end p.1 then Ok found else after_statement more (line_here p.1) found (top_statement p.1)
+after_separators more found (Some p) =
+    if at_end p.1 then Ok found else after_statement more (line_here p.1) found (top_statement p.1)
 
 -- the statements found, and those that follow; each takes a token, so the number of those left never decides
 unfoldable pub parsed_from : ℕ → Program → Input → Parsed

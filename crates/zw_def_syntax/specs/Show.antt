@@ -1,12 +1,13 @@
--- A text of a program, which is read back as that program. Each operand and each statement stands in parentheses, so that no
--- level of signs and no command comes into question; a node so takes two brackets at most.
+-- A text of a program, which is read back as that program. Each operand and each statement stands in parentheses, so
+-- that no level of signs and no command comes into question; a node so takes two brackets at most.
 use Prim.Native.String.{String}
-use Rattle.std.specs.Prelude.{◌≡◌, ℤ, pos, negsuc, suc, ◌-◌, ◌==◌, ◌||◌, Bool, true, false, if◌then◌else◌, List, [], ◌∷◌, ◌++◌, codes, map, length, take, decimal, Option, Some, None, Result, Ok, Err}
+use Rattle.std.specs.Prelude.{◌≡◌, ℤ, pos, negsuc, suc, ◌-◌, Bool, true, false, if◌then◌else◌, List, [], ◌∷◌, ◌++◌, codes, map, length, take, decimal, Option, Some, None, Result, Ok, Err}
 use Rattle.std.specs.Str.{bytes_eq}
 use Rattle.zw_def.specs.Text.{Text, is_upper}
 use Rattle.zw_def_syntax.specs.Token.{Kind, Fault, newline, identifier, constant, integer, instance_variable, class_variable, symbol, text, text_begin, text_middle, text_end, keyword, sign}
-use Rattle.zw_def_syntax.specs.Character.{first_is}
+use Rattle.zw_def_syntax.specs.Character.{first_is, backslash}
 use Rattle.zw_def_syntax.specs.Word.{is_equals}
+use Rattle.zw_def_syntax.specs.Content.{is_own_escape}
 use Rattle.zw_def_syntax.specs.Lexed.{is_among}
 use Rattle.zw_def_syntax.specs.Tree.{body_first, Tree, Trees, Perhaps, Branch, Base, Parts, Rescues, Defaults, Program, nil_node, true_node, false_node, self_node, int_node, str_node, sym_node, interp_node, array_node, local_node, ident_node, ivar_node, cvar_node, const_node, scoped_node, top_const_node, set_local, set_ivar, set_cvar, set_const, set_scoped, set_attr, call_node, self_call, super_node, zsuper_node, not_node, and_node, or_node, if_node, while_node, break_node, next_node, return_node, seq_node, begin_node, def_node, sdef_node, class_node, module_node, no_trees, tree_then, absent, present, no_branch, branch, innermost, topmost, within_node, no_parts, text_then, program_then, no_rescues, rescue_then, no_defaults, default_then}
 use Rattle.zw_def_syntax.specs.Program.{Parsed, program_of}
@@ -131,7 +132,8 @@ unfoldable mutual
   spelled (set_cvar x e) = token (class_variable x) <> mark "=" <> group (spelled e)
   spelled (set_const n e) = token (constant n) <> mark "=" <> group (spelled e)
   spelled (set_scoped b n e) = group (spelled b) <> mark "::" <> token (constant n) <> mark "=" <> group (spelled e)
-  spelled (set_attr r x e) = group (spelled r) <> mark "." <> tight_token (identifier x) <> mark "=" <> group (spelled e)
+  spelled (set_attr r x e) =
+      group (spelled r) <> mark "." <> tight_token (identifier x) <> mark "=" <> group (spelled e)
   spelled (call_node r x args) = called x (group (spelled r)) (spelled_each args)
   spelled (self_call x args) = token (identifier x) <> parens (spelled_each args)
   spelled (super_node args) = word "super" <> parens (spelled_each args)
@@ -142,7 +144,8 @@ unfoldable mutual
   spelled (or_node (local_node x) (set_local y e)) = updated "||" "||=" x y (group (spelled e))
   spelled (or_node a b) = group (spelled a) <> mark "||" <> group (spelled b)
   spelled (if_node body_first c (tree_then a no_trees) no_trees) = group (spelled a) <> word "if" <> group (spelled c)
-  spelled (if_node body_first c no_trees (tree_then a no_trees)) = group (spelled a) <> word "unless" <> group (spelled c)
+  spelled (if_node body_first c no_trees (tree_then a no_trees)) =
+      group (spelled a) <> word "unless" <> group (spelled c)
   spelled (if_node order c a b) =
       word "if" <> group (spelled c) <> word "then" <> spelled_body a <> word "else" <> spelled_body b <> word "end"
   spelled (while_node body_first c (tree_then a no_trees)) = group (spelled a) <> word "while" <> group (spelled c)
@@ -152,16 +155,23 @@ unfoldable mutual
   spelled (return_node e) = word "return" <> spelled_value e
   spelled (seq_node all) = word "begin" <> spelled_body all <> word "end"
   spelled (begin_node body clauses other ensured) =
-      word "begin" <> spelled_body body <> spelled_clauses clauses <> spelled_branch "else" other <> spelled_branch "ensure" ensured <> word "end"
+      word "begin" <> spelled_body body <> spelled_clauses clauses <> spelled_branch "else" other
+      <> spelled_branch "ensure" ensured <> word "end"
   spelled (def_node x required defaults body) =
-      word "def" <> method_name token x <> parens (map (λ y. token (identifier y)) required ++ spelled_defaults defaults) <> line_end <> spelled_body body
+      word "def" <> method_name token x
+      <> parens (map (λ y. token (identifier y)) required ++ spelled_defaults defaults)
+      <> line_end <> spelled_body body
       <> word "end"
   spelled (sdef_node x required defaults body) =
-      word "def" <> of_self x <> parens (map (λ y. token (identifier y)) required ++ spelled_defaults defaults) <> line_end <> spelled_body body
+      word "def" <> of_self x
+      <> parens (map (λ y. token (identifier y)) required ++ spelled_defaults defaults)
+      <> line_end <> spelled_body body
       <> word "end"
   spelled (class_node base n superclass body) =
-      word "class" <> spelled_base base <> token (constant n) <> spelled_superclass superclass <> line_end <> spelled_body body <> word "end"
-  spelled (module_node base n body) = word "module" <> spelled_base base <> token (constant n) <> line_end <> spelled_body body <> word "end"
+      word "class" <> spelled_base base <> token (constant n) <> spelled_superclass superclass <> line_end
+      <> spelled_body body <> word "end"
+  spelled (module_node base n body) =
+      word "module" <> spelled_base base <> token (constant n) <> line_end <> spelled_body body <> word "end"
 
   -- a path of constants
   pub spelled_path : Tree → Spelling
@@ -215,11 +225,13 @@ unfoldable mutual
   pub spelled_clauses : Rescues → Spelling
   spelled_clauses no_rescues = nothing
   spelled_clauses (rescue_then paths x body more) =
-      word "rescue" <> listed (spelled_paths paths) <> rescued x <> word "then" <> spelled_body body <> spelled_clauses more
+      word "rescue" <> listed (spelled_paths paths) <> rescued x <> word "then" <> spelled_body body
+      <> spelled_clauses more
 
   pub spelled_defaults : Defaults → List Spelling
   spelled_defaults no_defaults = []
-  spelled_defaults (default_then x e more) = (token (identifier x) <> mark "=" <> group (spelled e)) ∷ spelled_defaults more
+  spelled_defaults (default_then x e more) =
+      (token (identifier x) <> mark "=" <> group (spelled e)) ∷ spelled_defaults more
 
 abbrev pub spelled_program : Program → Spelling
 spelled_program [] = nothing
@@ -230,7 +242,7 @@ spelled_program (s ∷ more) = group (spelled s.tree) <> line_end <> spelled_pro
 -- in double quotes a quote, a backslash and a `#` are written by escapes, and all else as it is
 abbrev pub escaped : Text → Text
 escaped [] = []
-escaped (b ∷ bs) = if b == 34 || b == 92 || b == 35 then 92 ∷ b ∷ escaped bs else b ∷ escaped bs
+escaped (b ∷ bs) = if is_own_escape b then backslash ∷ b ∷ escaped bs else b ∷ escaped bs
 
 abbrev pub text_of : Kind → Text
 text_of newline = codes "\n"
@@ -269,4 +281,6 @@ IsReadBack program known = without_lines (program_of known (show program)) ≡ O
 
 -- every program that a text is, with these variables known at its start, is read back
 abbrev pub IsAlwaysReadBack : Type 0
-IsAlwaysReadBack = (known : List Text) (text : Text) (program : Program) → program_of known text ≡ Ok program → IsReadBack program known
+IsAlwaysReadBack =
+    (known : List Text) (text : Text) (program : Program) → program_of known text ≡ Ok program
+    → IsReadBack program known

@@ -15,7 +15,7 @@ pub data Kind : Type 0 where
   symbol : Text → Kind
   -- a whole text, by the text that it stands for
   text : Text → Kind
-  -- the parts of a text with interpolations: up to the first `#{`, from a `}` to the next `#{`, and from the last `}` on
+  -- the parts of a text with interpolations: up to its first `#{`, from a `}` to the next `#{`, and after its last `}`
   text_begin : Text → Kind
   text_middle : Text → Kind
   text_end : Text → Kind
@@ -48,6 +48,22 @@ pub data Reason : Type 0 where
   misplaced_def : Reason
   definition_in_method : Reason
   repeated_parameter : Reason
+
+-- the number that output has for a reason: its place among these, from 1 on
+abbrev pub reason_number : Reason → ℕ
+reason_number not_utf8 = 1
+reason_number outside_character = 2
+reason_number outside_number = 3
+reason_number unended_text = 4
+reason_number outside_escape = 5
+reason_number outside_word = 6
+reason_number nameless_variable = 7
+reason_number unended_interpolation = 8
+reason_number malformed = 9
+reason_number misplaced_jump = 10
+reason_number misplaced_def = 11
+reason_number definition_in_method = 12
+reason_number repeated_parameter = 13
 
 pub record Fault : Type 0 where
   pub line : ℕ

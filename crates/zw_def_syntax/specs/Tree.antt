@@ -4,15 +4,16 @@ use Rattle.zw_def.specs.Text.{Text}
 
 -- ---- nodes
 
--- What stands first in the text, the test or the body that a modifier follows. It changes nothing of what a node does, and
--- tells which variables were known where: `x if x = 1` asks for a method `x`, and `if x = 1 then x end` does not.
+-- What stands first in the text, the test or the body that a modifier follows. It changes nothing of what a node
+-- does, and tells which variables were known where: `x if x = 1` asks for a method `x`, and `if x = 1 then x end` does
+-- not.
 pub data Order : Type 0 where
   test_first : Order
   body_first : Order
 
 mutual
-  -- The forty kinds of nodes. A body is a list of nodes, its statements. Arguments, the paths of a rescue clause and the
-  -- items of an array are lists of nodes, too.
+  -- The forty kinds of nodes. A body is a list of nodes, its statements. Arguments, the paths of a rescue clause
+  -- and the items of an array are lists of nodes, too.
   pub data Tree : Type 0 where
     -- values, `self`, texts with interpolations, and arrays (ISO/IEC 30170, 11.5.4.8, 8.7.6 and 11.5.5)
     nil_node : Tree
@@ -84,7 +85,7 @@ mutual
     no_branch : Branch
     branch : Trees → Branch
 
-  -- the place where a class or module stands: the innermost one (`class N`), `Object` (`class ::N`), or the value of a node
+  -- the place where a class or module stands: the innermost one (`class N`), `Object` (`class ::N`), or a node's value
   pub data Base : Type 0 where
     innermost : Base
     topmost : Base
@@ -139,7 +140,8 @@ max_height = 100
 
 -- a node is one higher than its highest part; there is none where that is more than 100
 unfoldable pub node : Grown Tree → Option (Grown Tree)
-node parts = if nat_lt parts.height max_height then Some (record { form = parts.form; height = parts.height + 1 }) else None
+node parts =
+    if nat_lt parts.height max_height then Some (record { form = parts.form; height = parts.height + 1 }) else None
 
 -- a node without parts
 abbrev pub leaf : Tree → Grown Tree
@@ -152,7 +154,8 @@ over f a = node (f <$> a)
 abbrev pub over_both : {A B : Type 0} → (A → B → Tree) → Grown A → Grown B → Option (Grown Tree)
 over_both f a b = node (f <$> a <*> b)
 
-abbrev pub over_three : {A B C : Type 0} → (A → B → C → Tree) → Grown A → Grown B → Grown C → Option (Grown Tree)
+abbrev pub over_three :
+    {A B C : Type 0} → (A → B → C → Tree) → Grown A → Grown B → Grown C → Option (Grown Tree)
 over_three f a b c = node (f <$> a <*> b <*> c)
 
 -- lists of nodes add nothing to the height

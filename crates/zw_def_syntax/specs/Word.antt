@@ -5,7 +5,7 @@ use Rattle.std.specs.Str.{encode_utf8_all}
 use Rattle.unicode_ident.specs.Ident.{is_xid_continue}
 use Rattle.zw_def.specs.Text.{Text, is_upper}
 use Rattle.zw_def_syntax.specs.Token.{Kind, identifier, constant, symbol, instance_variable, class_variable, nameless_variable}
-use Rattle.zw_def_syntax.specs.Character.{Characters, first_is, is_name_start}
+use Rattle.zw_def_syntax.specs.Character.{Characters, first_is, is_name_start, question_mark, exclamation_mark, equals_sign, greater_sign, tilde, at_sign}
 use Rattle.zw_def_syntax.specs.Piece.{Reading, token, refused}
 
 -- the name at the front: a character that begins one, and all that go on (UAX 31, XID_Continue)
@@ -14,10 +14,10 @@ name [] = []
 name (c ∷ cs) = if is_name_start c then c ∷ take_while is_xid_continue cs else []
 
 abbrev pub is_mark : ℕ → Bool
-is_mark c = c == 63 || c == 33
+is_mark c = c == question_mark || c == exclamation_mark
 
 abbrev pub is_equals : ℕ → Bool
-is_equals c = c == 61
+is_equals c = c == equals_sign
 
 -- a `?` or `!` belongs to the name before it unless `=` follows
 abbrev pub mark : Characters → Characters
@@ -43,7 +43,7 @@ word_token cs = token (word_kind cs (encode_utf8_all (word cs))) (length (word c
 
 -- a character after which a `=` is no part of the symbol before it: `=`, `>` or `~`
 abbrev pub is_after_equals : ℕ → Bool
-is_after_equals c = c == 61 || c == 62 || c == 126
+is_after_equals c = c == equals_sign || c == greater_sign || c == tilde
 
 -- a `=` directly after a symbol's name belongs to it unless `=`, `>` or `~` follows
 abbrev pub setter : Characters → Characters
@@ -62,10 +62,11 @@ symbol_token cs = token (symbol (encode_utf8_all (symbol_name cs))) (1 + length 
 -- a variable with a sign of this size before its name
 abbrev pub variable : (Text → Kind) → ℕ → Characters → Reading
 variable kind size cs =
-    if first_is is_name_start cs then token (kind (encode_utf8_all (name cs))) (size + length (name cs)) else refused nameless_variable
+    if first_is is_name_start cs then token (kind (encode_utf8_all (name cs))) (size + length (name cs))
+    else refused nameless_variable
 
 abbrev pub is_at : ℕ → Bool
-is_at c = c == 64
+is_at c = c == at_sign
 
 -- a variable, from what follows its first `@` on
 abbrev pub variable_token : Characters → Reading

@@ -1,8 +1,10 @@
-//! Kinds of characters.
-ghost use Rattle.std.specs.Prelude.{◌≡◌};
+//! Kinds of characters, and what stands at the front of some.
+ghost use Rattle.std.specs.Prelude.{◌≡◌, ◌≤◌, ℕ, Bool, length};
+ghost use Rattle.std.specs.List.{take_while};
 ghost use Rattle.zw_def_syntax.specs.Character.{is_blank, is_line_feed, is_name_start, first_is};
-ghost use Rattle.zw_def_syntax.specs.Word.{is_mark, is_equals, is_after_equals, is_at};
+ghost use Rattle.zw_def_syntax.specs.Word.{is_mark, is_after_equals};
 ghost use Rattle.zw_def_syntax.specs.Number.{is_number_part};
+ghost use Rattle.zw_lexer.specs.Character.{Tells};
 
 pub(crate) fn is_blank(c: char) -> bool
     ensures { result ≡ is_blank c }
@@ -44,44 +46,17 @@ pub(crate) fn is_number_part(c: char) -> bool
 pub(crate) fn begins_name(characters: &[char]) -> bool
     ensures { result ≡ first_is is_name_start characters.now }
 {
-    match characters.first() {
-        None => false,
-        Some(c) => is_name_start(*c),
-    }
+    characters.first().is_some_and(|c| is_name_start(*c))
 }
 
-pub(crate) fn begins_with_blank(characters: &[char]) -> bool
-    ensures { result ≡ first_is is_blank characters.now }
+/// How many characters at the front pass a test.
+pub(crate) fn front_length<F: Fn(char) -> bool>(characters: &[char], passes: F) -> usize
+    requires { F.IsAlwaysCallable passes }
+    ensures size { (p : ℕ → Bool) → Tells (F.post passes) p → result ≡ length (take_while p characters.now) }
+    ensures within { result ≤ length characters.now }
 {
-    match characters.first() {
-        None => false,
-        Some(c) => is_blank(*c),
-    }
-}
-
-pub(crate) fn begins_with_equals(characters: &[char]) -> bool
-    ensures { result ≡ first_is is_equals characters.now }
-{
-    match characters.first() {
-        None => false,
-        Some(c) => *c == '=',
-    }
-}
-
-pub(crate) fn begins_after_equals(characters: &[char]) -> bool
-    ensures { result ≡ first_is is_after_equals characters.now }
-{
-    match characters.first() {
-        None => false,
-        Some(c) => is_after_equals(*c),
-    }
-}
-
-pub(crate) fn begins_with_at(characters: &[char]) -> bool
-    ensures { result ≡ first_is is_at characters.now }
-{
-    match characters.first() {
-        None => false,
-        Some(c) => *c == '@',
-    }
+    characters
+        .iter()
+        .position(|c| !passes(*c))
+        .unwrap_or(characters.len())
 }

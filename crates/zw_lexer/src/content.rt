@@ -1,24 +1,24 @@
 //! The contents of texts.
-ghost use Rattle.std.specs.Prelude.{◌≡◌, ◌<◌, ◌≤◌, IfOk, IfSome, IsTrue, Some, option_map, length};
+ghost use Rattle.std.specs.Prelude.{◌≡◌, ◌<◌, ◌≤◌, IfOk, IfSome, IsTrue, Some, option_map, length, string_bytes};
 ghost use Rattle.std.specs.List.{list_all};
+ghost use Rattle.std.specs.Char.{is_ascii_hexdigit, digit_value};
 ghost use Rattle.std.specs.Str.Parse.{digits_value};
 ghost use Rattle.zw_def_syntax.specs.Character.{first_is};
-ghost use Rattle.zw_def_syntax.specs.Token.{text, text_begin};
-ghost use Rattle.std.specs.List.{take_while};
-ghost use Rattle.std.specs.Char.{is_ascii_hexdigit, digit_value};
 ghost use Rattle.zw_def_syntax.specs.Content as spec;
-ghost use Rattle.zw_lexer.specs.Seen.{Reads};
-ghost use Rattle.zw_lexer.specs.Contents.{element_seen, ends_at, opens_at, element_by, ReadsContent, character_with};
+ghost use Rattle.zw_lexer.specs.Content.{element_seen, ends_at, opens_at, element_by, content_after, ReadsContent, character_with, token_kind, whole_kind, front_kind};
+ghost use Rattle.zw_lexer.specs.Lexeme.{Reads, lexeme_seen};
 
-use crate::lexeme::{Lexeme, Piece, Stop};
-use crate::token::Reason;
+use crate::character::front_length;
+use crate::fault::Reason;
+use crate::lexeme::{Lexeme, Piece, PieceFault};
 use std::alloc::Global;
 
-/// What quotes a text.
+/// What a content stands after: the quote of its text, or the `}` of an interpolation, which only double quotes have.
 #[derive(Clone, Copy)]
-pub(crate) enum Quote {
-    Single,
-    Double,
+pub(crate) enum Start {
+    SingleQuote,
+    DoubleQuote,
+    ClosingBrace,
 }
 
 /// What a character or an escape stands for, and how many characters it has.
@@ -30,30 +30,25 @@ struct Element {
 
 /// What a text holds up to its quote or to a `#{`, whether that is a `#{`, and how many characters that is.
 #[derive(Drop)]
-pub(crate) struct Content {
-    pub(crate) held: String,
-    pub(crate) opens: bool,
-    pub(crate) size: usize,
+struct Content {
+    held: String,
+    opens: bool,
+    size: usize,
 }
+
+/// How many digits the code of a character may have: the greatest is 10FFFF.
+const MAX_HEXADECIMALS: usize = 6;
+
+const HEXADECIMAL: u32 = 16;
 
 // ---- elements
-
-fn hexadecimals(characters: &[char]) -> usize
-    ensures size { result ≡ length (take_while is_ascii_hexdigit characters.now) }
-    ensures within { result ≤ length characters.now }
-{
-    characters
-        .iter()
-        .position(|c| !c.is_ascii_hexdigit())
-        .unwrap_or(characters.len())
-}
 
 fn hexadecimal_value(digit: char) -> u32
     requires { IsTrue (is_ascii_hexdigit digit) }
     ensures value { result ≡ digit_value digit }
     ensures small { result < 16 }
 {
-    digit.to_digit(16).unwrap_or(0)
+    digit.to_digit(HEXADECIMAL).unwrap_or(0)
 }
 
 // The character with a code of at most six hexadecimal digits, if there is one.
@@ -64,7 +59,7 @@ fn character_of(digits: &[char]) -> Option<char>
 {
     let mut code = 0;
     for digit in digits {
-        code = code * 16 + hexadecimal_value(*digit);
+        code = code * HEXADECIMAL + hexadecimal_value(*digit);
     }
     char::from_u32(code)
 }
@@ -72,18 +67,15 @@ fn character_of(digits: &[char]) -> Option<char>
 fn begins_with_closing_brace(characters: &[char]) -> bool
     ensures { result ≡ first_is spec.is_closing_brace characters.now }
 {
-    match characters.first() {
-        None => false,
-        Some(c) => *c == '}',
-    }
+    characters.first().is_some_and(|c| *c == '}')
 }
 
 // The escape `\u{H}`, from what follows its `\u{` on.
 fn unicode_escape(characters: &[char]) -> Option<Element>
     ensures { option_map element_seen result ≡ spec.unicode_escape characters.now }
 {
-    let size = hexadecimals(characters);
-    if size == 0 || size > 6 || !begins_with_closing_brace(&characters[size..]) {
+    let size = front_length(characters, |c| c.is_ascii_hexdigit());
+    if size == 0 || size > MAX_HEXADECIMALS || !begins_with_closing_brace(&characters[size..]) {
         return None;
     }
     let character = character_of(&characters[..size])?;
@@ -136,20 +128,12 @@ fn double_element(characters: &[char]) -> Option<Element>
 fn single_escape(characters: &[char]) -> Element
     ensures { Some (element_seen result) ≡ spec.single_escape characters.now }
 {
-    match characters.first() {
-        Some('\'') => Element {
-            character: '\'',
-            size: 2,
-        },
-        Some('\\') => Element {
-            character: '\\',
-            size: 2,
-        },
-        _ => Element {
-            character: '\\',
-            size: 1,
-        },
-    }
+    let (character, size) = match characters.first() {
+        Some('\'') => ('\'', 2),
+        Some('\\') => ('\\', 2),
+        _ => ('\\', 1),
+    };
+    Element { character, size }
 }
 
 fn single_element(characters: &[char]) -> Option<Element>
@@ -165,102 +149,90 @@ fn single_element(characters: &[char]) -> Option<Element>
     })
 }
 
-fn element_at(quote: Quote, characters: &[char]) -> Option<Element>
-    ensures value { option_map element_seen result ≡ element_by quote characters.now }
+fn element_at(start: Start, characters: &[char]) -> Option<Element>
+    ensures value { option_map element_seen result ≡ element_by start characters.now }
     ensures within { IfSome result (λ e. (0 < e.size) × (e.size ≤ length characters.now)) }
 {
-    match quote {
-        Quote::Single => single_element(characters),
-        Quote::Double => double_element(characters),
+    match start {
+        Start::SingleQuote => single_element(characters),
+        Start::DoubleQuote | Start::ClosingBrace => double_element(characters),
     }
 }
 
 // ---- contents
 
-fn ends(quote: Quote, characters: &[char]) -> bool
-    ensures { result ≡ ends_at quote characters.now }
+fn ends(start: Start, characters: &[char]) -> bool
+    ensures { result ≡ ends_at start characters.now }
 {
-    match quote {
-        Quote::Single => characters.starts_with(&['\'']),
-        Quote::Double => characters.starts_with(&['"']),
+    match start {
+        Start::SingleQuote => characters.starts_with(&['\'']),
+        Start::DoubleQuote | Start::ClosingBrace => characters.starts_with(&['"']),
     }
 }
 
-fn opens(quote: Quote, characters: &[char]) -> bool
-    ensures value { result ≡ opens_at quote characters.now }
+fn opens(start: Start, characters: &[char]) -> bool
+    ensures value { result ≡ opens_at start characters.now }
     ensures within { IsTrue result → 2 ≤ length characters.now }
 {
-    match quote {
-        Quote::Single => false,
-        Quote::Double => characters.starts_with(&['#', '{']),
+    match start {
+        Start::SingleQuote => false,
+        Start::DoubleQuote | Start::ClosingBrace => characters.starts_with(&['#', '{']),
     }
 }
 
-fn content_of(alloc: Global, quote: Quote, characters: &[char]) -> Result<Content, Stop>
-    ensures read { ReadsContent result (spec.content (ends_at quote) (opens_at quote) (element_by quote) 0 characters.now) }
+fn content_of(alloc: Global, start: Start, characters: &[char]) -> Result<Content, PieceFault>
+    ensures read { ReadsContent result (content_after start characters.now) }
     ensures within { IfOk result (λ c. c.size ≤ length characters.now) }
 {
     let mut held = String::new(alloc);
     let mut at = 0;
     'elements: while at < characters.len() {
         let rest = &characters[at..];
-        if ends(quote, rest) {
+        if ends(start, rest) {
             return Ok(Content {
                 held,
                 opens: false,
                 size: at + 1,
             });
         }
-        if opens(quote, rest) {
+        if opens(start, rest) {
             return Ok(Content {
                 held,
                 opens: true,
                 size: at + 2,
             });
         }
-        match element_at(quote, rest) {
-            None => return Err(Stop::Refused(Reason::OutsideEscape)),
+        match element_at(start, rest) {
+            None => return Err(PieceFault::Refused(Reason::OutsideEscape)),
             Some(element) => {
                 held.push(element.character)?;
                 at += element.size;
             }
         }
     }
-    Err(Stop::Refused(Reason::UnendedText))
+    Err(PieceFault::Refused(Reason::UnendedText))
 }
 
 // ---- tokens
 
-/// The text whose quote stands before the characters, up to its end or to its first `#{`.
-pub(crate) fn text(alloc: Global, quote: Quote, characters: &[char]) -> Result<Piece, Stop>
-    ensures { Reads result (spec.text_token text text_begin (spec.content (ends_at quote) (opens_at quote) (element_by quote) 0 characters.now)) }
+// What a content is, by what it stands after.
+fn lexeme_of(start: Start, content: Content) -> Lexeme
+    ensures { lexeme_seen result ≡ token_kind start content.opens (string_bytes content.held) }
 {
-    match content_of(alloc, quote, characters) {
-        Err(stop) => Err(stop),
-        Ok(content) => Ok(Piece {
-            size: content.size + 1,
-            lexeme: Some(if content.opens {
-                Lexeme::TextBegin(content.held)
-            } else {
-                Lexeme::Text(content.held)
-            }),
-        }),
+    match (start, content.opens) {
+        (Start::ClosingBrace, true) => Lexeme::TextMiddle(content.held),
+        (Start::ClosingBrace, false) => Lexeme::TextEnd(content.held),
+        (_, true) => Lexeme::TextBegin(content.held),
+        (_, false) => Lexeme::Text(content.held),
     }
 }
 
-/// What goes on after the `}` that stands before the characters.
-pub(crate) fn continued(alloc: Global, characters: &[char]) -> Result<Piece, Stop>
-    ensures { Reads result (spec.continued_token characters.now) }
+/// The text, or what goes on of it, whose start stands before the characters: up to its end or to a `#{`.
+pub(crate) fn text(alloc: Global, start: Start, characters: &[char]) -> Result<Piece, PieceFault>
+    ensures { Reads result (spec.text_token (whole_kind start) (front_kind start)
+        (content_after start characters.now)) }
 {
-    match content_of(alloc, Quote::Double, characters) {
-        Err(stop) => Err(stop),
-        Ok(content) => Ok(Piece {
-            size: content.size + 1,
-            lexeme: Some(if content.opens {
-                Lexeme::TextMiddle(content.held)
-            } else {
-                Lexeme::TextEnd(content.held)
-            }),
-        }),
-    }
+    let content = content_of(alloc, start, characters)?;
+    let size = 1 + content.size;
+    Ok(Piece::token(lexeme_of(start, content), size))
 }

@@ -1,10 +1,13 @@
 //! Pieces of a text: a token before its name is numbered, or what lies between tokens.
-ghost use Rattle.std.specs.Prelude.{◌≡◌, IfOk, string_bytes};
+ghost use Rattle.std.specs.Prelude.{◌≡◌, IfOk, Ok, string_bytes};
 ghost use Rattle.std.specs.Str.{encode_utf8_all};
-ghost use Rattle.zw_lexer.specs.declared.lexeme.Stop.TheVariants.{Memory};
+ghost use Rattle.zw_def_syntax.specs.Piece.{gap, token};
+ghost use Rattle.zw_lexer.specs.Lexeme.{lexeme_seen, piece_seen};
 
-use crate::token::{Punctuation, Reason};
-use std::alloc::{AllocError, AllocFailed, Global};
+use crate::fault::Reason;
+use crate::punctuation::Punctuation;
+use std::alloc::{AllocError, Global};
+use zw_base::Fault;
 
 /// What a token is, with the text of its name.
 #[derive(Drop)]
@@ -31,25 +34,24 @@ pub(crate) struct Piece {
 }
 
 /// Why no piece is read.
-#[derive(Clone, Copy)]
-pub(crate) enum Stop {
-    Refused(Reason),
-    Memory,
-}
+pub(crate) type PieceFault = Fault<Reason>;
 
-impl From<AllocError> for Stop {
-    ghost from_gives = { λ _ stop. stop ≡ Memory };
-
-    fn from(_error: AllocError) -> Stop {
-        Stop::Memory
+impl Piece {
+    /// A token of so many characters.
+    pub(crate) fn token(lexeme: Lexeme, size: usize) -> Piece
+        ensures { Ok (piece_seen result) ≡ token (lexeme_seen lexeme) size }
+    {
+        Piece {
+            lexeme: Some(lexeme),
+            size,
+        }
     }
-}
 
-impl<T: Drop> From<AllocFailed<T>> for Stop {
-    ghost from_gives = { λ _ stop. stop ≡ Memory };
-
-    fn from(_error: AllocFailed<T>) -> Stop {
-        Stop::Memory
+    /// So many characters that are no token.
+    pub(crate) fn gap(size: usize) -> Piece
+        ensures { Ok (piece_seen result) ≡ gap size }
+    {
+        Piece { lexeme: None, size }
     }
 }
 

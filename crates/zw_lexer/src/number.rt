@@ -1,38 +1,29 @@
 //! Integers.
-ghost use Rattle.std.specs.Prelude.{◌≡◌, ◌+◌, ◌*◌, ◌^◌, ◌<◌, ◌≤◌, IsTrue, length};
+ghost use Rattle.std.specs.Prelude.{◌≡◌, ◌+◌, ◌*◌, ◌^◌, ◌<◌, ◌≤◌, IsTrue};
 ghost use Rattle.std.specs.List.{list_all};
 ghost use Rattle.std.specs.Char.{digit_value};
-ghost use Rattle.zw_def_syntax.specs.Character.{first_is};
-ghost use Rattle.zw_lexer.specs.Numbers.{within_greatest};
-ghost use Rattle.std.specs.List.{take_while};
 ghost use Rattle.std.specs.Str.Parse.{digits_value};
 ghost use Rattle.zw_def.specs.Text.{is_digit};
-ghost use Rattle.zw_def_syntax.specs.Number.{is_number_part, digits, is_grouped, is_unpadded, is_number_going_on, greatest_integer, number_token};
-ghost use Rattle.zw_lexer.specs.Seen.{Reads};
+ghost use Rattle.zw_def_syntax.specs.Number as spec;
+ghost use Rattle.zw_lexer.specs.Lexeme.{Reads};
+ghost use Rattle.zw_lexer.specs.Number.{within_greatest};
 
-use crate::character::is_number_part;
-use crate::lexeme::{Lexeme, Piece, Stop};
-use crate::token::Reason;
+use crate::character::{front_length, is_number_part};
+use crate::fault::Reason;
+use crate::lexeme::{Lexeme, Piece, PieceFault};
 
-fn part_length(characters: &[char]) -> usize
-    ensures size { result ≡ length (take_while is_number_part characters.now) }
-    ensures within { result ≤ length characters.now }
-{
-    characters
-        .iter()
-        .position(|c| !is_number_part(*c))
-        .unwrap_or(characters.len())
-}
+// The base of the digits.
+const RADIX: u64 = 10;
 
 // Whether each `_` stands between digits.
 fn is_grouped(part: &[char]) -> bool
-    ensures { result ≡ is_grouped part.now }
+    ensures { result ≡ spec.is_grouped part.now }
 {
     part.split(|c| *c == '_').all(|piece| !piece.is_empty())
 }
 
 fn is_unpadded(part: &[char]) -> bool
-    ensures { result ≡ is_unpadded part.now }
+    ensures { result ≡ spec.is_unpadded part.now }
 {
     match part.split_first() {
         None => true,
@@ -40,23 +31,15 @@ fn is_unpadded(part: &[char]) -> bool
     }
 }
 
-fn begins_with_digit(characters: &[char]) -> bool
-    ensures { result ≡ first_is is_digit characters.now }
-{
-    match characters.first() {
-        None => false,
-        Some(c) => c.is_ascii_digit(),
-    }
-}
-
 // Whether a letter, or a dot and a digit, follows a number.
 fn is_going_on(rest: &[char]) -> bool
-    ensures { result ≡ is_number_going_on rest.now }
+    ensures { result ≡ spec.is_number_going_on rest.now }
 {
     match rest.split_first() {
         None => false,
         Some((first, more)) => {
-            unicode_ident::is_xid_start(*first) || (*first == '.' && begins_with_digit(more))
+            unicode_ident::is_xid_start(*first)
+                || (*first == '.' && more.first().is_some_and(|c| c.is_ascii_digit()))
         }
     }
 }
@@ -64,7 +47,7 @@ fn is_going_on(rest: &[char]) -> bool
 // The greatest integer of 64 bits with its sign.
 #[tactic(auto, unfolding(zw_def_syntax::specs::Number::greatest_integer))]
 fn greatest() -> u64
-    ensures value { result ≡ greatest_integer }
+    ensures value { result ≡ spec.greatest_integer }
     ensures large { 10 ≤ result }
     ensures fits { result < 2 ^ 63 }
 {
@@ -85,17 +68,17 @@ fn with_digit(value: u64, digit: u64) -> Option<u64>
     requires { digit < 10 }
     ensures { result ≡ within_greatest (value * 10 + digit) }
 {
-    if value > (greatest() - digit) / 10 {
+    if value > (greatest() - digit) / RADIX {
         None
     } else {
-        Some(value * 10 + digit)
+        Some(value * RADIX + digit)
     }
 }
 
 // The value of the digits, where it has 64 bits with its sign.
 fn value_of(part: &[char]) -> Option<u64>
-    requires { IsTrue (list_all is_number_part part.now) }
-    ensures { result ≡ within_greatest (digits_value 10 (digits part.now)) }
+    requires { IsTrue (list_all spec.is_number_part part.now) }
+    ensures { result ≡ within_greatest (digits_value 10 (spec.digits part.now)) }
 {
     let mut value = 0;
     for character in part {
@@ -107,19 +90,16 @@ fn value_of(part: &[char]) -> Option<u64>
 }
 
 /// The integer at the front of the characters, which begin with a digit.
-pub(crate) fn number(characters: &[char]) -> Result<Piece, Stop>
-    ensures { Reads result (number_token characters.now) }
+pub(crate) fn number(characters: &[char]) -> Result<Piece, PieceFault>
+    ensures { Reads result (spec.number_token characters.now) }
 {
-    let size = part_length(characters);
+    let size = front_length(characters, is_number_part);
     let part = &characters[..size];
     if !is_grouped(part) || !is_unpadded(part) || is_going_on(&characters[size..]) {
-        return Err(Stop::Refused(Reason::OutsideNumber));
+        return Err(PieceFault::Refused(Reason::OutsideNumber));
     }
     match value_of(part) {
-        None => Err(Stop::Refused(Reason::OutsideNumber)),
-        Some(value) => Ok(Piece {
-            lexeme: Some(Lexeme::Integer(value)),
-            size,
-        }),
+        None => Err(PieceFault::Refused(Reason::OutsideNumber)),
+        Some(value) => Ok(Piece::token(Lexeme::Integer(value), size)),
     }
 }

@@ -1,9 +1,8 @@
 //! Places in a text, and the texts that an interpolation stands in.
-ghost use Rattle.std.specs.Prelude.{◌≡◌, ◌+◌, ◌^◌, ◌<◌, length};
+ghost use Rattle.std.specs.Prelude.{◌≡◌, ◌+◌, ◌^◌, ◌<◌};
 ghost use Rattle.std.specs.Char.{len_utf8};
-ghost use Rattle.std.specs.Str.{encode_utf8_all};
 ghost use Rattle.zw_def_syntax.specs.Character.{after_character, after_characters, is_after_blank};
-ghost use Rattle.zw_lexer.specs.Places.{place_seen};
+ghost use Rattle.zw_lexer.specs.Place.{place_seen, HasRoom};
 
 use crate::character::{is_blank, is_line_feed};
 
@@ -46,7 +45,7 @@ impl Place {
 
     /// The place after some characters.
     pub(crate) fn after(&self, characters: &[char]) -> Place
-        requires { (self.now.line + length characters.now < 2 ^ 64) × (self.now.byte + length (encode_utf8_all characters.now) < 2 ^ 64) }
+        requires { HasRoom self.now characters.now }
         ensures { place_seen result ≡ after_characters characters.now (place_seen self.now) }
     {
         let mut place = *self;
@@ -60,9 +59,6 @@ impl Place {
     pub(crate) fn is_after_blank(&self) -> bool
         ensures { result ≡ is_after_blank (place_seen self.now) }
     {
-        match self.last {
-            None => false,
-            Some(character) => is_blank(character),
-        }
+        self.last.is_some_and(|character| is_blank(character))
     }
 }

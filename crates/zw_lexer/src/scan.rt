@@ -1,19 +1,19 @@
 //! The tokens of a text before its words are told apart.
-ghost use Rattle.std.specs.Prelude.{◌≡◌, ◌+◌, ◌^◌, ◌<◌, ◌≤◌, [], IfOk, OnOk, Result, Err, List, map, option_map, length, take, drop};
-ghost use Rattle.std.specs.Str.{encode_utf8_all};
+ghost use Rattle.std.specs.Prelude.{◌≡◌, ◌≤◌, [], IfOk, OnOk, Result, Err, List, map, option_map, length, take, drop};
 ghost use Rattle.zw_def_syntax.specs.Character.{after_characters};
-ghost use Rattle.zw_def_syntax.specs.Scan.{Opening as DefinedOpening, Scanned, scanned, token_between, open_after, with_piece, at_end};
-ghost use Rattle.zw_lexer.specs.Seen.{Locates, lexeme_seen, fault_seen};
-ghost use Rattle.zw_lexer.specs.Places.{place_seen, nest_seen};
-ghost use Rattle.zw_lexer.specs.Scans.{raw_seen, scan_seen, onto, with_brace, EndsAs};
+ghost use Rattle.zw_def_syntax.specs.Scan as spec;
+ghost use Rattle.zw_lexer.specs.Fault.{fault_seen};
+ghost use Rattle.zw_lexer.specs.Lexeme.{Locates, lexeme_seen};
+ghost use Rattle.zw_lexer.specs.Place.{place_seen, nest_seen, HasRoom};
+ghost use Rattle.zw_lexer.specs.Scan.{raw_seen, scan_seen, after_read, after_piece, with_brace, EndsAs};
 ghost use Rattle.zw_def_syntax.specs.Piece.{Piece as DefinedPiece};
 ghost use Rattle.zw_def_syntax.specs.Token.{Fault};
 
-use crate::character::begins_with_blank;
+use crate::character::is_blank;
+use crate::fault::{LexFault, Reason, SyntaxFault};
 use crate::lexeme::{Lexeme, Piece};
 use crate::piece::piece;
 use crate::place::{Opening, Place};
-use crate::token::{LexFault, Reason, SyntaxFault};
 use std::alloc::{AllocError, Global};
 
 /// Where a token stands.
@@ -50,7 +50,8 @@ struct Reader {
 
 // The token from one place to another, before these characters.
 fn raw_between(lexeme: Lexeme, first: &Place, last: &Place, rest: &[char]) -> Raw
-    ensures { raw_seen result ≡ token_between (lexeme_seen lexeme) (place_seen first.now) (place_seen last.now) rest.now }
+    ensures { raw_seen result
+        ≡ spec.token_between (lexeme_seen lexeme) (place_seen first.now) (place_seen last.now) rest.now }
 {
     Raw {
         lexeme,
@@ -59,7 +60,7 @@ fn raw_between(lexeme: Lexeme, first: &Place, last: &Place, rest: &[char]) -> Ra
             start: first.byte,
             end: last.byte,
             blank_before: first.is_after_blank(),
-            blank_after: begins_with_blank(rest),
+            blank_after: rest.first().is_some_and(|c| is_blank(*c)),
         },
     }
 }
@@ -84,7 +85,8 @@ fn open_after(
     first: usize,
     last: usize,
 ) -> Result<(), AllocError>
-    ensures { OnOk result (nest_seen nest.new.items ≡ open_after (lexeme_seen lexeme.now) first last (nest_seen nest.old.items)) }
+    ensures { OnOk result (nest_seen nest.new.items
+        ≡ spec.open_after (lexeme_seen lexeme.now) first last (nest_seen nest.old.items)) }
 {
     match lexeme {
         Lexeme::TextBegin(_) => {
@@ -105,26 +107,24 @@ fn open_after(
 
 // An interpolation that is open at the end is not ended.
 fn fault_at_end(nest: &[Opening]) -> Option<SyntaxFault>
-    ensures { option_map fault_seen result ≡ (at_end (nest_seen nest.now)).fault }
+    ensures { option_map fault_seen result ≡ (spec.at_end (nest_seen nest.now)).fault }
 {
-    match nest.last() {
-        None => None,
-        Some(opening) => Some(SyntaxFault {
-            line: opening.brace,
-            reason: Reason::UnendedInterpolation,
-        }),
-    }
+    let opening = nest.last()?;
+    Some(SyntaxFault {
+        line: opening.brace,
+        reason: Reason::UnendedInterpolation,
+    })
 }
 
 impl Reader {
     // Takes a piece that these characters begin with.
     fn take(&mut self, piece: Piece, characters: &[char]) -> Result<(), AllocError>
         requires within { piece.size ≤ length characters.now }
-        requires room { (self.old.place.line + length characters.now < 2 ^ 64) × (self.old.place.byte + length (encode_utf8_all characters.now) < 2 ^ 64) }
-        ensures place { OnOk result (place_seen self.new.place ≡ after_characters (take piece.size characters.now) (place_seen self.old.place)) }
-        ensures tokens { OnOk result ((more : List DefinedOpening → Scanned) →
-            onto (map raw_seen self.new.tokens.items) (more (nest_seen self.new.nest.items))
-            ≡ onto (map raw_seen self.old.tokens.items) (with_piece (option_map lexeme_seen piece.lexeme) (place_seen self.old.place) (place_seen self.new.place) (drop piece.size characters.now) (nest_seen self.old.nest.items) more)) }
+        requires room { HasRoom self.old.place characters.now }
+        ensures place { OnOk result (place_seen self.new.place
+            ≡ after_characters (take piece.size characters.now) (place_seen self.old.place)) }
+        ensures tokens { OnOk result ((more : List spec.Opening → spec.Scanned) →
+            after_read self.new more ≡ after_piece self.old self.new piece (drop piece.size characters.now) more) }
     {
         let first = self.place;
         let (taken, rest) = characters.split_at(piece.size);
@@ -140,11 +140,12 @@ impl Reader {
 
 // The scan that a fault ends.
 fn ended(tokens: Vec<Raw>, fault: LexFault) -> Result<Scan, AllocError>
-    ensures { IfOk result (λ s. (reading : Result DefinedPiece Fault) → Locates (Err fault) reading → EndsAs (map raw_seen tokens.items) reading (scan_seen s)) }
+    ensures { IfOk result (λ s. (reading : Result DefinedPiece Fault) →
+        Locates (Err fault) reading → EndsAs (map raw_seen tokens.items) reading (scan_seen s)) }
 {
     match fault {
         LexFault::Memory => Err(AllocError),
-        LexFault::Syntax(fault) => Ok(Scan {
+        LexFault::Refused(fault) => Ok(Scan {
             tokens,
             fault: Some(fault),
         }),
@@ -165,8 +166,8 @@ pub(crate) fn scan_from(
     first: Place,
     characters: &[char],
 ) -> Result<Scan, AllocError>
-    requires { (first.line + length characters.now < 2 ^ 64) × (first.byte + length (encode_utf8_all characters.now) < 2 ^ 64) }
-    ensures { IfOk result (λ s. scan_seen s ≡ scanned 0 [] (place_seen first) characters.now) }
+    requires { HasRoom first characters.now }
+    ensures { IfOk result (λ s. scan_seen s ≡ spec.scanned 0 [] (place_seen first) characters.now) }
 {
     let mut reader = Reader {
         tokens: Vec::new(alloc),

@@ -1,18 +1,26 @@
 //! Words are told apart, and line ends that separate nothing are dropped. The tokens that are still to come stand in a
 //! list with the next one last.
-ghost use Rattle.std.specs.Prelude.{◌≡◌, ◌<◌, ◌&&◌, length, IfNone, IfSome, ◌++◌, ◌∷◌, [], List, ℕ, Some, None, not, codes, IfOk, IfErr, OnOk, Result, Ok, Err, map};
+ghost use Rattle.std.specs.Prelude.{◌≡◌, ◌<◌, ◌&&◌, ◌++◌, ◌∷◌, [], List, None, IfNone, IfSome, IfOk, IfErr, OnOk, codes, length, map};
+ghost use Rattle.zw_def.specs.Text.{Text};
 ghost use Rattle.zw_def_syntax.specs.Token as kind;
 ghost use Rattle.zw_def_syntax.specs.Token.{Kind};
-ghost use Rattle.zw_def_syntax.specs.Lexed.{is_sign, is_keyword, is_newline, first_kind, is_singleton, is_name_after, is_closer, goes_on, drops_end, word_kind, kind_after, before_tokens, settled, without_ends_before};
-ghost use Rattle.zw_names.specs.Names.{OnlyGrows};
-ghost use Rattle.zw_lexer.specs.Seen.{sign_text, keyword_text, lexeme_seen, kind_seen, token_seen};
-ghost use Rattle.zw_lexer.specs.Scans.{raw_seen};
-ghost use Rattle.zw_lexer.specs.Settled.{turned, last_kind, apart_kind, token_with, SignOf, Settles, Faults};
+ghost use Rattle.zw_def_syntax.specs.Lexed as spec;
+ghost use Rattle.zw_def_syntax.specs.Lexed.{is_sign, is_keyword, is_newline, is_closer, goes_on, drops_end, word_kind, kind_after};
+ghost use Rattle.zw_def.specs.Names.{OnlyGrows};
+ghost use Rattle.zw_lexer.specs.Fault.{Faults};
+ghost use Rattle.zw_lexer.specs.Keyword.{keyword_text};
+ghost use Rattle.zw_lexer.specs.Lexeme.{lexeme_seen};
+ghost use Rattle.zw_lexer.specs.Punctuation.{sign_text};
+ghost use Rattle.zw_lexer.specs.Scan.{raw_seen, turned};
+ghost use Rattle.zw_lexer.specs.Settle.{last_kind, apart_kind, token_with, SignOf, Settles};
+ghost use Rattle.zw_lexer.specs.Token.{kind_seen, token_seen, tokens_seen, AreTokens};
 
+use crate::fault::{LexFault, Reason, SyntaxFault};
+use crate::keyword::{Keyword, is_outside};
 use crate::lexeme::Lexeme;
+use crate::punctuation::Punctuation;
 use crate::scan::{Raw, Span};
-use crate::token::{Keyword, LexFault, Punctuation, Reason, SyntaxFault, Token, TokenKind};
-use crate::words::Words;
+use crate::token::{Token, TokenKind};
 use std::alloc::{AllocError, Global};
 use zw_names::Names;
 
@@ -71,10 +79,7 @@ fn joins_lines(word: Keyword) -> bool
 fn is_line_end(raw: &Raw) -> bool
     ensures { result ≡ is_newline (raw_seen raw.now).kind }
 {
-    match raw.lexeme {
-        Lexeme::Newline => true,
-        _ => false,
-    }
+    matches!(raw.lexeme, Lexeme::Newline)
 }
 
 // The sign that a token is, if it is one.
@@ -89,33 +94,21 @@ fn sign_of(raw: &Raw) -> Option<Punctuation>
 
 // Whether the next token is a `)`, `]` or `.`.
 fn closer_follows(left: &[Raw]) -> bool
-    ensures { result ≡ first_kind is_closer (turned left.now) }
+    ensures { result ≡ spec.first_kind is_closer (turned left.now) }
 {
-    match left.last() {
-        None => false,
-        Some(raw) => match sign_of(raw) {
-            None => false,
-            Some(sign) => closes(sign),
-        },
-    }
+    left.last().and_then(sign_of).is_some_and(closes)
 }
 
 // Whether the next token is a `.`.
 fn dot_follows(left: &[Raw]) -> bool
-    ensures { result ≡ first_kind (is_sign (codes ".")) (turned left.now) }
+    ensures { result ≡ spec.first_kind (is_sign (codes ".")) (turned left.now) }
 {
-    match left.last() {
-        None => false,
-        Some(raw) => match sign_of(raw) {
-            None => false,
-            Some(sign) => is_dot(sign),
-        },
-    }
+    left.last().and_then(sign_of).is_some_and(is_dot)
 }
 
 // Puts a token before those that are kept, unless it is a line end that is dropped.
 fn keep(raw: Raw, kept: &mut Vec<Raw>) -> Result<(), AllocError>
-    ensures { OnOk result (turned kept.new.items ≡ before_tokens (raw_seen raw) (turned kept.old.items)) }
+    ensures { OnOk result (turned kept.new.items ≡ spec.before_tokens (raw_seen raw) (turned kept.old.items)) }
 {
     if is_line_end(&raw) && closer_follows(kept) {
         return Ok(());
@@ -127,7 +120,8 @@ fn keep(raw: Raw, kept: &mut Vec<Raw>) -> Result<(), AllocError>
 // Takes the last token of a list.
 fn take_last(tokens: &mut Vec<Raw>) -> Option<Raw>
     ensures none { IfNone result (tokens.old.items ≡ []) }
-    ensures some { IfSome result (λ raw. map raw_seen tokens.old.items ≡ map raw_seen tokens.new.items ++ raw_seen raw ∷ []) }
+    ensures some { IfSome result (λ raw.
+        map raw_seen tokens.old.items ≡ map raw_seen tokens.new.items ++ raw_seen raw ∷ []) }
     ensures turned { IfSome result (λ raw. turned tokens.old.items ≡ raw_seen raw ∷ turned tokens.new.items) }
     ensures shorter { IfSome result (λ raw. length tokens.new.items < length tokens.old.items) }
 {
@@ -139,7 +133,7 @@ pub(crate) fn without_ends_before(
     alloc: Global,
     mut tokens: Vec<Raw>,
 ) -> Result<Vec<Raw>, AllocError>
-    ensures { IfOk result (λ kept. turned kept.items ≡ without_ends_before (map raw_seen tokens.items)) }
+    ensures { IfOk result (λ kept. turned kept.items ≡ spec.without_ends_before (map raw_seen tokens.items)) }
 {
     let mut kept = Vec::new(alloc);
     'tokens: while let Some(raw) = take_last(&mut tokens) {
@@ -152,7 +146,7 @@ pub(crate) fn without_ends_before(
 
 // Whether a line end after the token is dropped.
 fn goes_on_after(kind: &TokenKind) -> bool
-    ensures { (names : List (List ℕ)) → result ≡ goes_on (kind_seen names kind.now) }
+    ensures { (names : List Text) → result ≡ goes_on (kind_seen names kind.now) }
 {
     match kind {
         TokenKind::Sign(sign) => ends_no_line(*sign),
@@ -163,7 +157,7 @@ fn goes_on_after(kind: &TokenKind) -> bool
 
 // Whether a line end is dropped after these tokens.
 fn drops_end_after(settled: &[Token]) -> bool
-    ensures { (names : List (List ℕ)) → result ≡ drops_end (last_kind names settled.now) }
+    ensures { (names : List Text) → result ≡ drops_end (last_kind names settled.now) }
 {
     match settled.last() {
         None => true,
@@ -173,13 +167,14 @@ fn drops_end_after(settled: &[Token]) -> bool
 
 // Whether the token is a line end that is dropped after these tokens.
 fn is_dropped(raw: &Raw, settled: &[Token]) -> bool
-    ensures { (names : List (List ℕ)) → result ≡ (is_newline (raw_seen raw.now).kind && drops_end (last_kind names settled.now)) }
+    ensures { (names : List Text) →
+        result ≡ (is_newline (raw_seen raw.now).kind && drops_end (last_kind names settled.now)) }
 {
     is_line_end(raw) && drops_end_after(settled)
 }
 
 fn is_dot_token(kind: &TokenKind) -> bool
-    ensures { (names : List (List ℕ)) → result ≡ is_sign (codes ".") (kind_seen names kind.now) }
+    ensures { (names : List Text) → result ≡ is_sign (codes ".") (kind_seen names kind.now) }
 {
     match kind {
         TokenKind::Sign(sign) => is_dot(*sign),
@@ -188,7 +183,7 @@ fn is_dot_token(kind: &TokenKind) -> bool
 }
 
 fn is_def_token(kind: &TokenKind) -> bool
-    ensures { (names : List (List ℕ)) → result ≡ is_keyword (codes "def") (kind_seen names kind.now) }
+    ensures { (names : List Text) → result ≡ is_keyword (codes "def") (kind_seen names kind.now) }
 {
     match kind {
         TokenKind::Keyword(word) => is_def(*word),
@@ -200,14 +195,15 @@ fn is_def_token(kind: &TokenKind) -> bool
 
 // Whether the word is `self` with a `.` after it.
 fn is_singleton(word: &str, left: &[Raw]) -> bool
-    ensures { result ≡ is_singleton word.now (turned left.now) }
+    ensures { result ≡ spec.is_singleton word.now (turned left.now) }
 {
     word == "self" && dot_follows(left)
 }
 
 // Whether the word is a plain name, by the token before it.
 fn is_name_here(settled: &[Token], word: &str, left: &[Raw]) -> bool
-    ensures { (names : List (List ℕ)) → result ≡ is_name_after (last_kind names settled.now) word.now (turned left.now) }
+    ensures { (names : List Text) →
+        result ≡ spec.is_name_after (last_kind names settled.now) word.now (turned left.now) }
 {
     match settled.last() {
         None => false,
@@ -217,35 +213,39 @@ fn is_name_here(settled: &[Token], word: &str, left: &[Raw]) -> bool
     }
 }
 
-fn told_apart(words: &Words, settled: &[Token], word: &str, left: &[Raw]) -> Apart
-    ensures { (names : List (List ℕ)) (plain : Kind) → word_kind plain (is_name_after (last_kind names settled.now) word.now (turned left.now)) word.now ≡ apart_kind plain result }
+fn told_apart(settled: &[Token], word: &str, left: &[Raw]) -> Apart
+    ensures { (names : List Text) (plain : Kind) →
+        word_kind plain (spec.is_name_after (last_kind names settled.now) word.now (turned left.now)) word.now
+        ≡ apart_kind plain result }
 {
     if is_name_here(settled, word, left) {
         return Apart::Plain;
     }
-    if words.is_outside(word) {
+    if is_outside(word) {
         return Apart::Outside;
     }
-    match words.keyword(word) {
+    match Keyword::of(word) {
         Some(keyword) => Apart::Keyword(keyword),
         None => Apart::Plain,
     }
 }
 
 // What a token is told to be, after these and before those that are left.
-fn apart_of(words: &Words, settled: &[Token], lexeme: &Lexeme, left: &[Raw]) -> Apart
-    ensures { (names : List (List ℕ)) → kind_after (last_kind names settled.now) (lexeme_seen lexeme.now) (turned left.now) ≡ apart_kind (lexeme_seen lexeme.now) result }
+fn apart_of(settled: &[Token], lexeme: &Lexeme, left: &[Raw]) -> Apart
+    ensures { (names : List Text) →
+        kind_after (last_kind names settled.now) (lexeme_seen lexeme.now) (turned left.now)
+        ≡ apart_kind (lexeme_seen lexeme.now) result }
 {
     match lexeme {
-        Lexeme::Identifier(word) => told_apart(words, settled, word, left),
-        Lexeme::Constant(word) => told_apart(words, settled, word, left),
+        Lexeme::Identifier(word) | Lexeme::Constant(word) => told_apart(settled, word, left),
         _ => Apart::Plain,
     }
 }
 
 // What a token is by its form, its name numbered.
 fn plain_kind(names: &mut Names, lexeme: Lexeme) -> Result<TokenKind, AllocError>
-    ensures told { IfOk result (λ kind. (all : List (List ℕ)) → OnlyGrows names.new all → kind_seen all kind ≡ lexeme_seen lexeme) }
+    ensures told { IfOk result (λ kind.
+        (all : List Text) → OnlyGrows names.new all → kind_seen all kind ≡ lexeme_seen lexeme) }
     ensures grows { OnlyGrows names.old names.new }
 {
     Ok(match lexeme {
@@ -265,7 +265,7 @@ fn plain_kind(names: &mut Names, lexeme: Lexeme) -> Result<TokenKind, AllocError
 }
 
 fn token(kind: TokenKind, span: Span) -> Token
-    ensures { (names : List (List ℕ)) → token_seen names result ≡ token_with (kind_seen names kind) span }
+    ensures { (names : List Text) → token_seen names result ≡ token_with (kind_seen names kind) span }
 {
     Token {
         kind,
@@ -278,7 +278,8 @@ fn token(kind: TokenKind, span: Span) -> Token
 }
 
 fn push_token(settled: &mut Vec<Token>, kind: TokenKind, span: Span) -> Result<(), AllocError>
-    ensures { OnOk result ((names : List (List ℕ)) → map (token_seen names) settled.new.items ≡ map (token_seen names) settled.old.items ++ token_with (kind_seen names kind) span ∷ []) }
+    ensures { OnOk result ((names : List Text) → tokens_seen names settled.new.items
+        ≡ tokens_seen names settled.old.items ++ token_with (kind_seen names kind) span ∷ []) }
 {
     settled.push(token(kind, span))?;
     Ok(())
@@ -287,7 +288,6 @@ fn push_token(settled: &mut Vec<Token>, kind: TokenKind, span: Span) -> Result<(
 // Settles one token, which stands after those that are settled.
 fn settle_token(
     names: &mut Names,
-    words: &Words,
     settled: &mut Vec<Token>,
     raw: Raw,
     left: &[Raw],
@@ -296,8 +296,8 @@ fn settle_token(
     ensures grows { OnlyGrows names.old names.new }
 {
     let span = raw.span;
-    match apart_of(words, settled, &raw.lexeme, left) {
-        Apart::Outside => Err(LexFault::Syntax(SyntaxFault {
+    match apart_of(settled, &raw.lexeme, left) {
+        Apart::Outside => Err(LexFault::Refused(SyntaxFault {
             line: span.line,
             reason: Reason::OutsideWord,
         })),
@@ -318,11 +318,10 @@ fn settle_token(
 pub(crate) fn settle(
     alloc: Global,
     names: &mut Names,
-    words: &Words,
     mut left: Vec<Raw>,
 ) -> Result<Vec<Token>, LexFault>
-    ensures told { IfOk result (λ tokens. (all : List (List ℕ)) → OnlyGrows names.new all → settled None (turned left.items) ≡ Ok (map (token_seen all) tokens.items)) }
-    ensures fault { IfErr result (λ fault. Faults fault (settled None (turned left.items))) }
+    ensures told { IfOk result (λ tokens. AreTokens names.new (spec.settled None (turned left.items)) tokens.items) }
+    ensures fault { IfErr result (λ fault. Faults fault (spec.settled None (turned left.items))) }
     ensures grows { OnlyGrows names.old names.new }
 {
     let mut settled = Vec::new(alloc);
@@ -330,10 +329,7 @@ pub(crate) fn settle(
         if is_dropped(&raw, &settled) {
             continue;
         }
-        match settle_token(names, words, &mut settled, raw, &left) {
-            Ok(()) => {}
-            Err(fault) => return Err(fault),
-        }
+        settle_token(names, &mut settled, raw, &left)?;
     }
     Ok(settled)
 }

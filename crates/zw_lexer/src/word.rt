@@ -4,36 +4,34 @@ ghost use Rattle.std.specs.List.{take_while};
 ghost use Rattle.unicode_ident.specs.Ident.{is_xid_continue};
 ghost use Rattle.zw_def.specs.Text.{is_upper};
 ghost use Rattle.zw_def_syntax.specs.Character.{first_is};
-ghost use Rattle.zw_def_syntax.specs.Word.{name, mark, word, setter, symbol_name, word_kind, word_token, symbol_token, variable, variable_token};
-ghost use Rattle.zw_def_syntax.specs.Token.{instance_variable, class_variable};
-ghost use Rattle.zw_lexer.specs.Seen.{Reads, lexeme_seen};
+ghost use Rattle.zw_def_syntax.specs.Word as spec;
+ghost use Rattle.zw_lexer.specs.Lexeme.{Reads, lexeme_seen};
+ghost use Rattle.zw_lexer.specs.Owner.{kind_of, mark_size};
 
-use crate::character::{
-    begins_after_equals, begins_name, begins_with_at, begins_with_equals, is_mark, is_name_start,
-};
-use crate::lexeme::{Lexeme, Piece, Stop, text_of};
-use crate::token::Reason;
+use crate::character::{begins_name, front_length, is_after_equals, is_mark, is_name_start};
+use crate::fault::Reason;
+use crate::lexeme::{Lexeme, Piece, PieceFault, text_of};
 use std::alloc::Global;
 
-fn continuing(characters: &[char]) -> usize
-    ensures { result ≡ length (take_while is_xid_continue characters.now) }
-{
-    characters
-        .iter()
-        .position(|c| !unicode_ident::is_xid_continue(*c))
-        .unwrap_or(characters.len())
+/// Whose a variable is.
+#[derive(Clone, Copy)]
+enum Owner {
+    /// An object's, `@x`.
+    Instance,
+    /// A class's, `@@x`.
+    Class,
 }
 
 // How many characters the name at the front has.
 fn name_length(characters: &[char]) -> usize
-    ensures size { result ≡ length (name characters.now) }
+    ensures size { result ≡ length (spec.name characters.now) }
     ensures within { result ≤ length characters.now }
 {
     match characters.split_first() {
         None => 0,
         Some((first, rest)) => {
             if is_name_start(*first) {
-                1 + continuing(rest)
+                1 + front_length(rest, unicode_ident::is_xid_continue)
             } else {
                 0
             }
@@ -42,48 +40,45 @@ fn name_length(characters: &[char]) -> usize
 }
 
 fn mark_length(characters: &[char]) -> usize
-    ensures size { result ≡ length (mark characters.now) }
+    ensures size { result ≡ length (spec.mark characters.now) }
     ensures within { result ≤ length characters.now }
 {
     match characters.split_first() {
-        None => 0,
-        Some((first, rest)) => {
-            if is_mark(*first) && !begins_with_equals(rest) {
-                1
-            } else {
-                0
-            }
-        }
+        Some((first, rest)) if is_mark(*first) && !begins_with_equals(rest) => 1,
+        _ => 0,
     }
 }
 
 fn setter_length(characters: &[char]) -> usize
-    ensures size { result ≡ length (setter characters.now) }
+    ensures size { result ≡ length (spec.setter characters.now) }
     ensures within { result ≤ length characters.now }
 {
     match characters.split_first() {
-        None => 0,
-        Some((first, rest)) => {
-            if *first == '=' && !begins_after_equals(rest) {
-                1
-            } else {
-                0
-            }
-        }
+        Some((first, rest)) if *first == '=' && !begins_after_equals(rest) => 1,
+        _ => 0,
     }
+}
+
+fn begins_with_equals(characters: &[char]) -> bool
+    ensures { result ≡ first_is spec.is_equals characters.now }
+{
+    characters.first().is_some_and(|c| *c == '=')
+}
+
+fn begins_after_equals(characters: &[char]) -> bool
+    ensures { result ≡ first_is spec.is_after_equals characters.now }
+{
+    characters.first().is_some_and(|c| is_after_equals(*c))
 }
 
 fn begins_constant(characters: &[char]) -> bool
     ensures { result ≡ first_is is_upper characters.now }
 {
-    match characters.first() {
-        None => false,
-        Some(c) => c.is_ascii_uppercase(),
-    }
+    characters.first().is_some_and(|c| c.is_ascii_uppercase())
 }
 
 fn word_length(characters: &[char]) -> usize
-    ensures size { result ≡ length (word characters.now) }
+    ensures size { result ≡ length (spec.word characters.now) }
     ensures within { result ≤ length characters.now }
 {
     let size = name_length(characters);
@@ -94,7 +89,7 @@ fn word_length(characters: &[char]) -> usize
 }
 
 fn symbol_length(characters: &[char]) -> usize
-    ensures size { result ≡ length (symbol_name characters.now) }
+    ensures size { result ≡ length (spec.symbol_name characters.now) }
     ensures within { result ≤ length characters.now }
 {
     let size = word_length(characters);
@@ -103,7 +98,7 @@ fn symbol_length(characters: &[char]) -> usize
 
 // What a word is, by its first character.
 fn word_lexeme(characters: &[char], text: String) -> Lexeme
-    ensures { lexeme_seen result ≡ word_kind characters.now (string_bytes text) }
+    ensures { lexeme_seen result ≡ spec.word_kind characters.now (string_bytes text) }
 {
     if begins_constant(characters) {
         Lexeme::Constant(text)
@@ -113,64 +108,63 @@ fn word_lexeme(characters: &[char], text: String) -> Lexeme
 }
 
 /// The word at the front of the characters, which begin with that of a name.
-pub(crate) fn word(alloc: Global, characters: &[char]) -> Result<Piece, Stop>
-    ensures { Reads result (word_token characters.now) }
+pub(crate) fn word(alloc: Global, characters: &[char]) -> Result<Piece, PieceFault>
+    ensures { Reads result (spec.word_token characters.now) }
 {
     let size = word_length(characters);
     let text = text_of(alloc, &characters[..size])?;
-    Ok(Piece {
-        lexeme: Some(word_lexeme(characters, text)),
-        size,
-    })
+    Ok(Piece::token(word_lexeme(characters, text), size))
 }
 
 /// The symbol whose `:` stands before the characters.
-pub(crate) fn symbol(alloc: Global, characters: &[char]) -> Result<Piece, Stop>
-    ensures { Reads result (symbol_token characters.now) }
+pub(crate) fn symbol(alloc: Global, characters: &[char]) -> Result<Piece, PieceFault>
+    ensures { Reads result (spec.symbol_token characters.now) }
 {
     let size = symbol_length(characters);
     let text = text_of(alloc, &characters[..size])?;
-    Ok(Piece {
-        lexeme: Some(Lexeme::Symbol(text)),
-        size: 1 + size,
-    })
+    Ok(Piece::token(Lexeme::Symbol(text), 1 + size))
 }
 
-fn class_variable(alloc: Global, characters: &[char]) -> Result<Piece, Stop>
-    ensures { Reads result (variable class_variable 2 characters.now) }
-{
-    if !begins_name(characters) {
-        return Err(Stop::Refused(Reason::NamelessVariable));
+impl Owner {
+    fn lexeme(self, name: String) -> Lexeme
+        ensures { lexeme_seen result ≡ kind_of self (string_bytes name) }
+    {
+        match self {
+            Owner::Instance => Lexeme::InstanceVariable(name),
+            Owner::Class => Lexeme::ClassVariable(name),
+        }
     }
-    let size = name_length(characters);
-    let text = text_of(alloc, &characters[..size])?;
-    Ok(Piece {
-        lexeme: Some(Lexeme::ClassVariable(text)),
-        size: 2 + size,
-    })
+
+    // How many `@` stand before its name.
+    fn mark_size(self) -> usize
+        ensures value { result ≡ mark_size self }
+        ensures small { result ≤ 2 }
+    {
+        match self {
+            Owner::Instance => 1,
+            Owner::Class => 2,
+        }
+    }
 }
 
-fn instance_variable(alloc: Global, characters: &[char]) -> Result<Piece, Stop>
-    ensures { Reads result (variable instance_variable 1 characters.now) }
+// The variable whose `@` or `@@` stands before the characters.
+fn variable_of(alloc: Global, owner: Owner, characters: &[char]) -> Result<Piece, PieceFault>
+    ensures { Reads result (spec.variable (kind_of owner) (mark_size owner) characters.now) }
 {
     if !begins_name(characters) {
-        return Err(Stop::Refused(Reason::NamelessVariable));
+        return Err(PieceFault::Refused(Reason::NamelessVariable));
     }
     let size = name_length(characters);
-    let text = text_of(alloc, &characters[..size])?;
-    Ok(Piece {
-        lexeme: Some(Lexeme::InstanceVariable(text)),
-        size: 1 + size,
-    })
+    let name = text_of(alloc, &characters[..size])?;
+    Ok(Piece::token(owner.lexeme(name), owner.mark_size() + size))
 }
 
 /// The variable whose first `@` stands before the characters.
-pub(crate) fn variable(alloc: Global, characters: &[char]) -> Result<Piece, Stop>
-    ensures { Reads result (variable_token characters.now) }
+pub(crate) fn variable(alloc: Global, characters: &[char]) -> Result<Piece, PieceFault>
+    ensures { Reads result (spec.variable_token characters.now) }
 {
-    if begins_with_at(characters) {
-        class_variable(alloc, &characters[1..])
-    } else {
-        instance_variable(alloc, characters)
+    match characters.split_first() {
+        Some(('@', name)) => variable_of(alloc, Owner::Class, name),
+        _ => variable_of(alloc, Owner::Instance, characters),
     }
 }

@@ -1,7 +1,7 @@
 use Rattle.std.proofs.Common.{◌≡◌, ◌+◌, ◌*◌, ◌∷◌, drop, arith, rules, ap, sym, ◌∙◌}
 use Rattle.std.specs.Str.Parse.{digits_value_after}
 use Rattle.std.proofs.lemmas.List.{drop_more}
-use Rattle.zw_lexer.proofs.Codes.{small_code, next_code}
+use Rattle.zw_lexer.proofs.CodeLemmas.{small_code, next_code}
 use Rattle.zw_lexer.proofs.content.character_of.Goals as goal
 
 pub overflow_mul-code : goal.overflow_mul-code

@@ -1,8 +1,8 @@
 use Rattle.std.proofs.Common.{sym, ◌∙◌}
-use Rattle.zw_names.proofs.Grown.{OnlyGrows-same}
-use Rattle.zw_lexer.proofs.Scanned.{map_IfOk}
-use Rattle.zw_lexer.proofs.Spans.{text_covers, text_in_order}
-use Rattle.zw_lexer.proofs.Settled.{lexed_as, lexed_other, other_text, map_Faults}
+use Rattle.zw_def.proofs.NameLemmas.{OnlyGrows-same}
+use Rattle.zw_lexer.proofs.ScanLemmas.{map_IfOk}
+use Rattle.zw_lexer.proofs.SpanLaws.{text_covers, text_in_order}
+use Rattle.zw_lexer.proofs.SettleLemmas.{lexed_as, lexed_other, other_text, map_Faults}
 use Rattle.zw_lexer.proofs.lexer.lex.Goals as goal
 
 pub returns-in-Ok-clause-tokens : goal.returns-in-Ok-clause-tokens

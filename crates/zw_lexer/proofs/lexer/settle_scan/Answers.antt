@@ -1,7 +1,7 @@
 use Rattle.std.proofs.Common.{option_map, None, ap, sym, ◌∙◌}
 use Rattle.zw_def_syntax.specs.Lexed.{up_to_fault, settled}
-use Rattle.zw_names.proofs.Grown.{OnlyGrows-same}
-use Rattle.zw_lexer.specs.Seen.{fault_seen}
+use Rattle.zw_def.proofs.NameLemmas.{OnlyGrows-same}
+use Rattle.zw_lexer.specs.Fault.{fault_seen}
 use Rattle.zw_lexer.proofs.lexer.settle_scan.Goals as goal
 
 pub returns-in-Some-clause-fault : goal.returns-in-Some-clause-fault

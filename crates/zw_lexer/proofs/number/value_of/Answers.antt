@@ -4,8 +4,8 @@ use Rattle.std.specs.Str.Parse.{digits_value_after}
 use Rattle.std.proofs.lemmas.List.{drop_more, drop_all}
 use Rattle.zw_def.specs.Text.{is_digit}
 use Rattle.zw_def_syntax.specs.Number.{digits}
-use Rattle.zw_lexer.specs.Numbers.{within_greatest}
-use Rattle.zw_lexer.proofs.Numbers.{too_great, past_digit, digit_part, part_at, not_equal}
+use Rattle.zw_lexer.specs.Number.{within_greatest}
+use Rattle.zw_lexer.proofs.NumberLemmas.{too_great, past_digit, digit_part, part_at, not_equal}
 use Rattle.zw_lexer.proofs.number.value_of.Goals as goal
 
 pub returns-in_err-value : goal.returns-in_err-value

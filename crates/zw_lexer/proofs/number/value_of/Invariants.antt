@@ -1,7 +1,7 @@
 use Rattle.std.proofs.Common.{◌≡◌, drop, Some}
 use Rattle.std.specs.Str.Parse.{digits_value, digits_value_after}
 use Rattle.zw_def_syntax.specs.Number.{digits}
-use Rattle.zw_lexer.specs.Numbers.{within_greatest}
+use Rattle.zw_lexer.specs.Number.{within_greatest}
 use Rattle.zw_lexer.proofs.number.value_of.Given as goal
 
 abbrev pub invariant-loop-character : goal.invariant-loop-character

@@ -2,13 +2,14 @@ use Rattle.std.proofs.Common.{◌≡◌, ◌+◌, ◌-◌, ◌<◌, ◌≤◌, L
 use Rattle.std.proofs.lemmas.List.{length-drop, length-take, drop-drop}
 use Rattle.zw_def_syntax.specs.Scan.{Opening, Scanned, piece_in, scanned, with_piece, at_end}
 use Rattle.zw_def_syntax.specs.Character.{after_characters}
-use Rattle.zw_lexer.specs.Seen.{piece_seen, fault_seen, Locates}
+use Rattle.zw_lexer.specs.Fault.{fault_seen}
+use Rattle.zw_lexer.specs.Lexeme.{piece_seen, Locates}
 use Rattle.zw_lexer.specs.declared.scan.Scan.{Scan}
 use Rattle.std.proofs.Common.{[], subst}
-use Rattle.zw_lexer.specs.Places.{place_seen, nest_seen}
-use Rattle.zw_lexer.specs.Scans.{raw_seen, onto, scan_seen, EndsAs}
-use Rattle.zw_lexer.proofs.Places.{bytes, bytes_split, byte_after, line_after}
-use Rattle.zw_lexer.proofs.Scanned.{map_IfOk, size_of_piece, piece_read, ends_with_fault, ends_at_end}
+use Rattle.zw_lexer.specs.Place.{place_seen, nest_seen}
+use Rattle.zw_lexer.specs.Scan.{raw_seen, onto, scan_seen, EndsAs}
+use Rattle.zw_lexer.proofs.PlaceLemmas.{bytes, bytes_split, byte_after, line_after}
+use Rattle.zw_lexer.proofs.ScanLemmas.{map_IfOk, size_of_piece, piece_read, ends_with_fault, ends_at_end}
 use Rattle.zw_lexer.proofs.scan.scan_from.Goals as goal
 
 pub returns-in-Err : goal.returns-in-Err

@@ -1,8 +1,8 @@
 use Rattle.std.proofs.Common.{◌≡◌, ◌≤◌, ◌<◌, ◌+◌, ◌-◌, ◌^◌, [], map, drop, length}
 use Rattle.zw_def_syntax.specs.Scan.{scanned}
-use Rattle.zw_lexer.specs.Places.{place_seen, nest_seen}
-use Rattle.zw_lexer.specs.Scans.{raw_seen, onto}
-use Rattle.zw_lexer.proofs.Places.{bytes}
+use Rattle.zw_lexer.specs.Place.{place_seen, nest_seen}
+use Rattle.zw_lexer.specs.Scan.{raw_seen, onto}
+use Rattle.zw_lexer.proofs.PlaceLemmas.{bytes}
 use Rattle.zw_lexer.proofs.scan.scan_from.Given as goal
 
 abbrev pub invariant-pieces : goal.invariant-pieces

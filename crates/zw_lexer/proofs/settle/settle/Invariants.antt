@@ -1,9 +1,10 @@
 use Rattle.std.proofs.Common.{◌≡◌, map, length, None, List, ℕ}
 use Rattle.zw_def_syntax.specs.Lexed.{settled}
-use Rattle.zw_names.specs.Names.{OnlyGrows}
-use Rattle.zw_lexer.specs.Seen.{token_seen}
-use Rattle.zw_lexer.specs.Settled.{turned, last_kind}
-use Rattle.zw_lexer.proofs.Settled.{joined}
+use Rattle.zw_def.specs.Names.{OnlyGrows}
+use Rattle.zw_lexer.specs.Token.{token_seen}
+use Rattle.zw_lexer.specs.Settle.{last_kind}
+use Rattle.zw_lexer.specs.Scan.{turned}
+use Rattle.zw_lexer.proofs.SettleLemmas.{joined}
 use Rattle.zw_lexer.proofs.settle.settle.Given as goal
 
 abbrev pub invariant-tokens : goal.invariant-tokens

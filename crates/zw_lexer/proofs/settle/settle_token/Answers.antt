@@ -1,8 +1,11 @@
 use Rattle.std.proofs.Common.{◌≡◌, ◌∷◌, [], ◌++◌, map, ap, sym, ◌∙◌, Some}
 use Rattle.zw_def_syntax.specs.Token as kind
 use Rattle.zw_def_syntax.specs.Lexed.{kind_after}
-use Rattle.zw_lexer.specs.Seen.{keyword_text, token_seen, lexeme_seen}
-use Rattle.zw_lexer.specs.Settled.{apart_kind, token_with, last_kind, turned}
+use Rattle.zw_lexer.specs.Keyword.{keyword_text}
+use Rattle.zw_lexer.specs.Lexeme.{lexeme_seen}
+use Rattle.zw_lexer.specs.Token.{token_seen}
+use Rattle.zw_lexer.specs.Settle.{apart_kind, token_with, last_kind}
+use Rattle.zw_lexer.specs.Scan.{turned}
 use Rattle.zw_lexer.proofs.settle.settle_token.Goals as goal
 
 pub returns-in_ok-push_token-in-Keyword-clause-steps : goal.returns-in_ok-push_token-in-Keyword-clause-steps

@@ -1,7 +1,7 @@
 use Rattle.std.proofs.Common.{map, ap, sym, ◌∙◌}
-use Rattle.zw_lexer.specs.Scans.{raw_seen}
-use Rattle.zw_lexer.specs.Settled.{turned}
-use Rattle.zw_lexer.proofs.Settled.{fronted, fronted_all, fronted_last}
+use Rattle.zw_lexer.specs.Scan.{raw_seen}
+use Rattle.zw_lexer.specs.Scan.{turned}
+use Rattle.zw_lexer.proofs.SettleLemmas.{fronted, fronted_all, fronted_last}
 use Rattle.zw_lexer.proofs.settle.without_ends_before.Goals as goal
 
 pub tokens-init : goal.tokens-init

@@ -1,8 +1,8 @@
 use Rattle.std.proofs.Common.{◌≡◌, map, length}
 use Rattle.zw_def_syntax.specs.Lexed.{without_ends_before}
-use Rattle.zw_lexer.specs.Scans.{raw_seen}
-use Rattle.zw_lexer.specs.Settled.{turned}
-use Rattle.zw_lexer.proofs.Settled.{fronted}
+use Rattle.zw_lexer.specs.Scan.{raw_seen}
+use Rattle.zw_lexer.specs.Scan.{turned}
+use Rattle.zw_lexer.proofs.SettleLemmas.{fronted}
 use Rattle.zw_lexer.proofs.settle.without_ends_before.Given as goal
 
 abbrev pub invariant-tokens : goal.invariant-tokens

@@ -1,7 +1,7 @@
 use Rattle.std.proofs.Common.{◌≡◌, take, ap, ◌∙◌, string_bytes, rules}
 use Rattle.std.specs.Str.{encode_utf8_all}
 use Rattle.zw_def_syntax.specs.Word.{word}
-use Rattle.zw_lexer.proofs.Fronts.{word_front}
+use Rattle.zw_lexer.proofs.FrontLemmas.{word_front}
 use Rattle.zw_lexer.proofs.word.word.Goals as goal
 
 pub returns : goal.returns

@@ -2,8 +2,8 @@ use Rattle.std.proofs.Common.{◌≡◌, ◌+◌, ◌≤◌, ◌∷◌, [], List
 use Rattle.std.specs.Char.{len_utf8}
 use Rattle.std.proofs.lemmas.List.{drop_more}
 use Rattle.zw_def_syntax.specs.Character.{after_character, after_characters}
-use Rattle.zw_lexer.specs.Places.{place_seen}
-use Rattle.zw_lexer.proofs.Places.{bytes, bytes_more, line_after}
+use Rattle.zw_lexer.specs.Place.{place_seen}
+use Rattle.zw_lexer.proofs.PlaceLemmas.{bytes, bytes_more, line_after}
 use Rattle.zw_lexer.proofs.place.Place.after.Goals as goal
 
 pub after_character-place-requires : goal.after_character-place-requires

@@ -1,7 +1,7 @@
 use Rattle.std.proofs.Common.{◌≡◌, ◌<◌, ◌+◌, ◌^◌, drop, length}
 use Rattle.std.specs.Str.{encode_utf8_all}
 use Rattle.zw_def_syntax.specs.Character.{after_characters}
-use Rattle.zw_lexer.specs.Places.{place_seen}
+use Rattle.zw_lexer.specs.Place.{place_seen}
 use Rattle.zw_lexer.proofs.place.Place.after.Given as goal
 
 abbrev pub invariant-loop-character : goal.invariant-loop-character

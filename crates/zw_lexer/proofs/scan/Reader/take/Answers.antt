@@ -1,5 +1,5 @@
 use Rattle.std.proofs.Common.{◌≡◌, ◌≤◌, take, length, arith, rules, ap}
-use Rattle.zw_lexer.proofs.Places.{bytes, bytes_split}
+use Rattle.zw_lexer.proofs.PlaceLemmas.{bytes, bytes_split}
 use Rattle.zw_lexer.proofs.scan.Reader.take.Goals as goal
 
 pub after-last-requires : goal.after-last-requires

@@ -1,0 +1,41 @@
+-- Signs, by their texts.
+use Rattle.std.specs.Prelude.{codes}
+use Rattle.zw_def.specs.Text.{Text}
+use Rattle.zw_lexer.specs.declared.punctuation.Punctuation.{Punctuation}
+use Rattle.zw_lexer.specs.declared.punctuation.Punctuation.TheVariants as p
+
+abbrev pub sign_text : Punctuation → Text
+sign_text p.Compare = codes "<=>"
+sign_text p.OrAssign = codes "||="
+sign_text p.AndAssign = codes "&&="
+sign_text p.EqualEqual = codes "=="
+sign_text p.NotEqual = codes "!="
+sign_text p.LessEqual = codes "<="
+sign_text p.GreaterEqual = codes ">="
+sign_text p.AndAnd = codes "&&"
+sign_text p.OrOr = codes "||"
+sign_text p.PlusAssign = codes "+="
+sign_text p.MinusAssign = codes "-="
+sign_text p.TimesAssign = codes "*="
+sign_text p.DivideAssign = codes "/="
+sign_text p.RemainderAssign = codes "%="
+sign_text p.Scope = codes "::"
+sign_text p.Arrow = codes "=>"
+sign_text p.Plus = codes "+"
+sign_text p.Minus = codes "-"
+sign_text p.Times = codes "*"
+sign_text p.Divide = codes "/"
+sign_text p.Remainder = codes "%"
+sign_text p.Less = codes "<"
+sign_text p.Greater = codes ">"
+sign_text p.Bang = codes "!"
+sign_text p.Assign = codes "="
+sign_text p.Dot = codes "."
+sign_text p.OpenParenthesis = codes "("
+sign_text p.CloseParenthesis = codes ")"
+sign_text p.OpenBracket = codes "["
+sign_text p.CloseBracket = codes "]"
+sign_text p.Comma = codes ","
+sign_text p.Semicolon = codes ";"
+sign_text p.Question = codes "?"
+sign_text p.Colon = codes ":"
