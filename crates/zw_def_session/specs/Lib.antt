@@ -1,3 +1,9 @@
-pub mod Start
-pub mod Command
-pub mod Output
+pub mod Commands
+pub mod Plain
+pub mod Naming
+pub mod CalmFile
+pub mod Check
+pub mod Answers
+pub mod Opening
+pub mod Whole
+pub mod Settings

@@ -1,137 +1,71 @@
--- What an expression answers, from the map of a tree. No entry, cache or table of loaded files is asked: the world has
--- the table of the constants that are set in Object, the keys that are gone, and the map.
-use Rattle.std.specs.Prelude.{ℕ, ℤ, Bool, List, [], ◌∷◌, ◌++◌, Option, Some, None, Result, Ok, Err, ◌&&◌, ◌==◌, ◌+◌, if◌then◌else◌, codes, find, reverse, position, take, drop}
-use Rattle.std.specs.Option.{option_map_or, option_and_then, option_or, option_map}
-use Rattle.std.specs.Fmt.{signed_decimal}
-use Rattle.std.specs.Str.{bytes_eq}
-use Rattle.zw_def.specs.Text.{Text}
-use Rattle.zw_def.specs.Path.{Path, path_text}
-use Rattle.zw_def.specs.Tree.{File, Tree}
-use Rattle.zw_def.specs.Map.{file_for}
-use Rattle.zw_def_world.specs.ClassFile.{ClassFile, Method, class_file, integer_of, is_class_name, is_method_name}
-use Rattle.zw_def_world.specs.Built.{is_among}
+-- The meaning of each kind of node.
+use Rattle.std.specs.Prelude.{ℕ, zero, suc, ◌+◌, ◌==◌, true, false, [], if◌then◌else◌}
+use Rattle.zw_def_syntax.specs.Tree.{Tree, nil_node, true_node, false_node, self_node, int_node, str_node, sym_node, interp_node, array_node, local_node, ident_node, ivar_node, cvar_node, const_node, scoped_node, top_const_node, set_local, set_ivar, set_cvar, set_const, set_scoped, set_attr, call_node, self_call, super_node, zsuper_node, not_node, and_node, or_node, if_node, while_node, break_node, next_node, return_node, seq_node, begin_node, def_node, sdef_node, class_node, module_node}
+use Rattle.zw_def_world.specs.CoreClass.{Object_class}
+use Rattle.zw_def_world.specs.Value.{nil, truth, int, symbol}
+use Rattle.zw_def_world.specs.Making.{makes_array}
+use Rattle.zw_def_world.specs.LookUp.{top_modules}
+use Rattle.zw_def_world.specs.Load.{unscoped, scoped, resolves, sets}
+use Rattle.zw_def_world.specs.Call.{sets_local}
+use Rattle.zw_def_world.specs.Variable.{self_act, local_act, ident_act, ivar_act, cvar_act, to_ivar, to_cvar, to_constant}
+use Rattle.zw_def_world.specs.Control.{literal, joins, calls_on, calls_self, to_attribute, calls_next, next_with_parameters, opposite, chosen, turns, perhaps, leaves_method, after_body, ensured}
+use Rattle.zw_def_world.specs.Definition.{on_module_or_fault, base_act, class_statement, module_statement, defines, defines_singleton}
+use Rattle.zw_def_world.specs.Act.{Act, broken, skipped, too_deep, lost, ends, gives, ◌>>>◌, ◌>>=◌, paid, statements, values_of}
 
--- the world of a session: the root and the tree that is mounted, the classes that are set in Object, and the keys that
--- are gone, since their files did not define them. A key that is neither set nor gone is idle.
-pub record World : Type 0 where
-  pub root : Path
-  pub tree : Tree
-  pub table : List ClassFile
-  pub gone : List Text
+-- ---- a node, where `go` evaluates its parts
 
--- the world at the start: no constant is set, and no key is gone
-abbrev pub world_at : Path → Tree → World
-world_at root tree = record { root = root; tree = tree; table = []; gone = [] }
+abbrev pub row_of : ℕ → (Tree → Act) → Tree → Act
+row_of n go nil_node = gives nil
+row_of n go true_node = gives (truth true)
+row_of n go false_node = gives (truth false)
+row_of n go self_node = self_act gives
+row_of n go (int_node z) = gives (int z)
+row_of n go (str_node t) = literal t
+row_of n go (sym_node t) = gives (symbol t)
+row_of n go (interp_node parts) = joins go parts []
+row_of n go (array_node items) = values_of go items makes_array
+row_of n go (local_node x) = local_act x
+row_of n go (ident_node x) = ident_act go x
+row_of n go (ivar_node x) = ivar_act x
+row_of n go (cvar_node x) = cvar_act x
+row_of n go (const_node c) = unscoped go c
+row_of n go (scoped_node e c) = go e >>= on_module_or_fault (scoped go c)
+row_of n go (top_const_node c) = resolves go c Object_class top_modules
+row_of n go (set_local x e) = go e >>= sets_local x
+row_of n go (set_ivar x e) = go e >>= to_ivar x
+row_of n go (set_cvar x e) = go e >>= to_cvar x
+row_of n go (set_const c e) = go e >>= to_constant c
+row_of n go (set_scoped b c e) = go b >>= (λ base. go e >>= (λ v. on_module_or_fault (λ i. sets i c v) base))
+row_of n go (set_attr r x e) = to_attribute go r x e
+row_of n go (call_node r x args) = calls_on go r x args
+row_of n go (self_call x args) = values_of go args (calls_self go x)
+row_of n go (super_node args) = values_of go args (calls_next go)
+row_of n go zsuper_node = next_with_parameters go
+row_of n go (not_node e) = go e >>= opposite
+row_of n go (and_node a b) = go a >>= (λ v. chosen (go b) (gives v) v)
+row_of n go (or_node a b) = go a >>= (λ v. chosen (gives v) (go b) v)
+row_of n go (if_node order c a b) = go c >>= chosen (statements go a) (statements go b)
+row_of n go (while_node order c body) = turns n (go c) (statements go body)
+row_of n go break_node = ends broken
+row_of n go next_node = ends skipped
+row_of n go (return_node e) = perhaps go e leaves_method
+row_of n go (seq_node list) = statements go list
+row_of n go (begin_node body clauses other last) =
+    (statements go body >>> after_body go clauses other) >>> ensured go last
+row_of n go (def_node x required optional body) = defines x required optional body
+row_of n go (sdef_node x required optional body) = defines_singleton x required optional body
+row_of n go (class_node base c superclass body) = base_act go base (class_statement go c superclass body)
+row_of n go (module_node base c body) = base_act go base (module_statement go c body)
 
--- ---- expressions
+-- ---- a step, a level, and the node's row
 
-pub data Expression : Type 0 where
-  integer : ℤ → Expression
-  constant : Text → Expression
-  call : Text → Text → Expression
+abbrev pub max_level : ℕ
+max_level = 2000
 
-abbrev pub is_dot : ℕ → Bool
-is_dot b = b == 46
+abbrev pub enters : ℕ → Act → Act
+enters level act = if level == max_level then ends too_deep else act
 
--- a class's name and a method's name make a call
-abbrev pub call_by : Text → Text → Option Expression
-call_by name method = if is_class_name name && is_method_name method then Some (call name method) else None
-
--- a call: what stands before the first dot, and what follows it
-abbrev pub call_of : Text → Option Expression
-call_of text = option_and_then (λ place. call_by (take place text) (drop (place + 1) text)) (position is_dot text)
-
-abbrev pub constant_of : Text → Option Expression
-constant_of text = if is_class_name text then Some (constant text) else None
-
--- the expression that a text is, if it is one that is built: an integer, a class's name, or a call of a class's method
-abbrev pub expression_of : Text → Option Expression
-expression_of text = option_or (option_map integer (integer_of text)) (option_or (constant_of text) (call_of text))
-
--- ---- how an evaluation ends
-
-pub data Value : Type 0 where
-  number : ℤ → Value
-  class_value : Text → Value
-
-pub data Ending : Type 0 where
-  gave : Value → Ending
-  no_constant : Text → Ending
-  no_method : Text → Text → Ending
-  not_defined : Path → Text → Ending
-
-pub record Outcome : Type 0 where
-  pub ending : Ending
-  pub world : World
-
--- ---- constants
-
-abbrev pub class_named : Text → List ClassFile → Option ClassFile
-class_named name classes = find (λ c. bytes_eq c.name name) classes
-
--- the table after a class is opened: where one of that name stands there, the methods are added to its own
-abbrev pub opened : List ClassFile → ClassFile → List ClassFile
-opened [] class = class ∷ []
-opened (c ∷ cs) class = if bytes_eq c.name class.name then record { name = c.name; methods = c.methods ++ class.methods } ∷ cs else c ∷ opened cs class
-
--- what a look-up gives: the class or the fault, and the world after it
-pub record Found : Type 0 where
-  pub answer : Result ClassFile Ending
-  pub world : World
-
--- a file that defined its constant, or did not
-abbrev pub loaded_as : World → Text → Path → Option ClassFile → Found
-loaded_as world name path (Some c) = record { answer = Ok c; world = world }
-loaded_as world name path None = record { answer = Err (not_defined path name); world = record world { gone = name ∷ world.gone } }
-
--- the class that the file's text opens is opened; then the constant is set, or the key is gone
-abbrev pub loaded_class : World → Text → Path → ClassFile → Found
-loaded_class world name path class = loaded_as (record world { table = opened world.table class }) name path (class_named name (opened world.table class))
-
-abbrev pub absent : World → Text → Found
-absent world name = record { answer = Err (no_constant name); world = world }
-
-abbrev pub loaded : World → Text → File → Found
-loaded world name file = option_map_or (loaded_class world name file.path) (class_file file.text) (absent world name)
-
--- a constant that is not set is loaded from the file that the map gives it, unless it is gone
-abbrev pub missing : World → Text → Found
-missing world name = if is_among world.gone name then absent world name else option_map_or (loaded world name) (file_for world.root world.tree name) (absent world name)
-
--- a constant of Object: its value where it is set
-abbrev pub resolved : World → Text → Found
-resolved world name = option_map_or (λ c. record { answer = Ok c; world = world }) (class_named name world.table) (missing world name)
-
--- ---- evaluation
-
--- the method of that name which was defined last
-abbrev pub method_named : Text → List Method → Option Method
-method_named name methods = find (λ m. bytes_eq m.name name) (reverse methods)
-
-abbrev pub called : Text → ClassFile → Ending
-called method class = option_map_or (λ m. gave (number m.value)) (method_named method class.methods) (no_method method class.name)
-
-abbrev pub ending_by : (ClassFile → Ending) → Result ClassFile Ending → Ending
-ending_by continue (Ok c) = continue c
-ending_by continue (Err ending) = ending
-
-abbrev pub with_constant : (ClassFile → Ending) → Found → Outcome
-with_constant continue found = record { ending = ending_by continue found.answer; world = found.world }
-
-abbrev pub evaluated : World → Expression → Outcome
-evaluated world (integer n) = record { ending = gave (number n); world = world }
-evaluated world (constant name) = with_constant (λ c. gave (class_value c.name)) (resolved world name)
-evaluated world (call name method) = with_constant (called method) (resolved world name)
-
--- ---- lines
-
-abbrev pub text_of_value : Value → Text
-text_of_value (number n) = signed_decimal n
-text_of_value (class_value name) = name
-
--- the line that tells an end
-abbrev pub line_of_ending : Ending → Text
-line_of_ending (gave value) = codes "= " ++ text_of_value value
-line_of_ending (no_constant name) = codes "! NameError: uninitialized constant " ++ name
-line_of_ending (no_method method name) = codes "! NoMethodError: undefined method '" ++ (method ++ (codes "' for class " ++ name))
-line_of_ending (not_defined path name) = codes "! Zeitwerk::NameError: expected file " ++ (path_text path ++ (codes " to define constant " ++ (name ++ codes ", but didn't")))
+-- the first number bounds how deep the definition goes; no run takes more steps than are left
+unfoldable pub run : ℕ → ℕ → Tree → Act
+run zero level node = paid 1 (ends lost)
+run (suc n) level node = paid 1 (enters level (row_of n (run n (level + 1)) node))

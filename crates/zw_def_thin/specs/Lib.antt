@@ -1,0 +1,11 @@
+pub mod ClassFile
+pub mod Map
+pub mod Built
+pub mod Evaluation
+pub mod Refusal
+pub mod Limit
+pub mod Mount
+pub mod Root
+pub mod Command
+pub mod Output
+pub mod Session

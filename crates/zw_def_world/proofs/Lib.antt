@@ -1,0 +1,12 @@
+pub mod PrimitiveLaws
+pub mod EvolutionLaws
+pub mod FaultLaws
+pub mod RowLaws
+pub mod KernelLaws
+pub mod TextLaws
+pub mod ModuleLaws
+pub mod LoadLaws
+pub mod CallLaws
+pub mod NodeLaws
+pub mod DefinitionLaws
+pub mod EvaluationLaws

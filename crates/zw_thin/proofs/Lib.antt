@@ -1,0 +1,10 @@
+pub mod WordLemmas
+pub mod NumeralLemmas
+pub mod MethodLemmas
+pub mod EntryLemmas
+pub mod NamedLemmas
+pub mod LookUpLemmas
+pub mod TakenLemmas
+pub mod CarriedLemmas
+pub mod StartLemmas
+pub mod WorldLemmas

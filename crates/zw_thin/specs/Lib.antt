@@ -1,0 +1,9 @@
+pub mod Lines
+pub mod ClassFile
+pub mod Held
+pub mod Key
+pub mod Start
+pub mod Class
+pub mod Expression
+pub mod Ending
+pub mod World
