@@ -1,0 +1,2 @@
+pub mod OverridesLemmas
+pub mod GemLemmas

@@ -1,0 +1,4 @@
+pub mod Overrides
+pub mod Gem
+pub mod Inflector
+pub mod Layout
