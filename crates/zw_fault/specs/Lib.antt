@@ -1,0 +1,4 @@
+pub mod ErrorKind
+pub mod Exception
+pub mod LoadFault
+pub mod Raise
