@@ -1,4 +1,9 @@
-pub mod Known
-pub mod Starts
-pub mod Streams
-pub mod Runs
+pub mod CommandLemmas
+pub mod ListingLemmas
+pub mod MountLemmas
+pub mod GroupLemmas
+pub mod ServedLemmas
+pub mod StreamLemmas
+pub mod ReplyLemmas
+pub mod PassingLemmas
+pub mod RunLemmas

@@ -1,5 +1,8 @@
-pub mod Refusals
-pub mod Starts
-pub mod Replies
-pub mod Runs
-pub mod Commands
+pub mod Refusal
+pub mod Session
+pub mod Reading
+pub mod Start
+pub mod Command
+pub mod Reply
+pub mod Stream
+pub mod Run

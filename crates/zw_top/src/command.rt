@@ -1,14 +1,13 @@
-// The lines of the stream, read as commands.
-ghost use Rattle.std.specs.Prelude.{◌≡◌, IfOk, string_bytes, position};
+//! The lines of the stream, read as commands.
+ghost use Rattle.std.specs.Prelude.{◌≡◌, IfOk, string_bytes};
 ghost use Rattle.std.specs.List.{list_all};
 ghost use Rattle.std.specs.Map.{keys_of};
 ghost use Rattle.std.specs.Str.Lines.{strip_carriage_return};
 ghost use Rattle.zw_def.specs.Text.{pieces};
-ghost use Rattle.zw_def_world.specs.ClassFile.{is_blank};
-ghost use Rattle.zw_def_session.specs.Command.{command_words, is_comment, is_command, is_space, first_word, rest_of, command_by, command_in, command_of_text};
-ghost use Rattle.zw_def_session.specs.Output.{line_of_reason};
-ghost use Rattle.zw_top.specs.Commands.{command_seen, reason_seen};
-ghost use Rattle.zw_top.specs.Replies.{command_for};
+ghost use Rattle.zw_def.specs.Line.{is_blank};
+ghost use Rattle.zw_def_thin.specs.Command.{command_words, is_comment, is_command, first_word, rest_of, command_by, command_in, command_of_text};
+ghost use Rattle.zw_def_thin.specs.Output.{line_of_reason};
+ghost use Rattle.zw_top.specs.Command.{command_seen, reason_seen, command_for};
 
 use std::alloc::{AllocError, Global};
 use std::marker::Model;
@@ -17,29 +16,35 @@ use zw_table::{Table, table};
 
 /// Why a line is refused.
 #[derive(Clone, Copy, Debug, PartialEq, Eq)]
-pub enum Reason {
+pub(crate) enum Reason {
+    /// It has more bytes than a line may have.
     TooLong,
+    /// It is not UTF-8.
     NotUtf8,
+    /// Its first word is no command.
     Unknown,
+    /// What follows the command has not the form that it takes.
     BadArgument,
+    /// The command, or its form, is not built so far.
     NotBuilt,
 }
 
 /// What a line asks for.
 #[derive(Clone, Copy, Debug)]
-pub enum Command<'a> {
+pub(crate) enum Command<'a> {
     /// Nothing: the line is blank or a comment.
     Nothing,
     /// The end of the session.
     End,
     /// The evaluation of an expression.
-    Run(&'a [u8]),
+    Run(&'a str),
+    /// A refusal.
     Refused(Reason),
 }
 
 /// The words of the commands.
 #[derive(Drop)]
-pub struct Words {
+pub(crate) struct Words {
     words: Table<(), 14>,
 }
 
@@ -47,7 +52,7 @@ impl Model for Words {
     ghost use Rattle.std.specs.Prelude.{◌≡◌};
     ghost use Rattle.std.specs.Map.{keys_of};
     ghost use Rattle.zw_def.specs.Text.{pieces};
-    ghost use Rattle.zw_def_session.specs.Command.{command_words};
+    ghost use Rattle.zw_def_thin.specs.Command.{command_words};
 
     ghost Value = { Unit {0} };
 
@@ -56,7 +61,7 @@ impl Model for Words {
     ghost invariant = { λ s. keys_of s.words ≡ pieces 32 command_words };
 }
 
-#[tactic(auto, unfolding(zw_def_session::specs::Command::command_words))]
+#[tactic(auto, unfolding(zw_def_thin::specs::Command::command_words))]
 fn command_words() -> Table<(), 14>
     ensures { keys_of result ≡ pieces 32 command_words }
 {
@@ -80,36 +85,34 @@ fn command_words() -> Table<(), 14>
 }
 
 impl Words {
-    pub fn new() -> Words {
+    /// The words of all commands, those that are not built among them.
+    pub(crate) fn new() -> Words {
         Words {
             words: command_words(),
         }
     }
 
-    fn has(&self, word: &[u8]) -> bool
+    fn has(&self, word: &str) -> bool
         ensures { result ≡ is_command word.now }
     {
-        match std::str::from_utf8(word) {
-            Err(_) => false,
-            Ok(word) => self.words.contains_key(word),
-        }
+        self.words.contains_key(word)
     }
 }
 
 // The line without a CR at its end.
-fn without_return(line: &[u8]) -> &[u8]
+fn without_return(line: &str) -> &str
     ensures { result.now ≡ strip_carriage_return line.now }
 {
-    if !line.is_empty() && line[line.len() - 1] == b'\r' {
-        return &line[..line.len() - 1];
+    match line.strip_suffix('\r') {
+        Some(front) => front,
+        None => line,
     }
-    line
 }
 
-fn is_blank_line(line: &[u8]) -> bool
+fn is_blank_line(line: &str) -> bool
     ensures { result ≡ list_all is_blank line.now }
 {
-    line.iter().all(|b| *b == b' ' || *b == b'\t')
+    line.bytes().all(|b| b == b' ' || b == b'\t')
 }
 
 fn is_remark(line: &[u8]) -> bool
@@ -121,55 +124,37 @@ fn is_remark(line: &[u8]) -> bool
     }
 }
 
-fn space(line: &[u8]) -> Option<usize>
-    ensures { result ≡ position is_space line.now }
+// The first word of a line, and what follows the space after it.
+fn parted(line: &str) -> (&str, &str)
+    ensures word { result.0.now ≡ first_word line.now }
+    ensures rest { result.1.now ≡ rest_of line.now }
 {
-    line.iter().position(|b| *b == b' ')
-}
-
-fn word_of(line: &[u8]) -> &[u8]
-    ensures { result.now ≡ first_word line.now }
-{
-    match space(line) {
-        Some(place) => &line[..place],
-        None => line,
+    match line.split_once(' ') {
+        Some((word, rest)) => (word, rest),
+        None => (line, ""),
     }
 }
 
-fn past_word(line: &[u8]) -> &[u8]
-    ensures { result.now ≡ rest_of line.now }
-{
-    match space(line) {
-        Some(place) => &line[place + 1..],
-        None => &line[line.len()..],
-    }
-}
-
-fn command_from<'a>(words: &Words, word: &[u8], rest: &'a [u8]) -> Command<'a>
+fn command_from<'a>(words: &Words, word: &str, rest: &'a str) -> Command<'a>
     ensures { command_seen result ≡ command_by word.now rest.now }
 {
-    if word == b"run".as_slice() {
-        return Command::Run(rest);
+    match word {
+        "run" => Command::Run(rest),
+        "end" if rest.is_empty() => Command::End,
+        "end" => Command::Refused(Reason::BadArgument),
+        _ if words.has(word) => Command::Refused(Reason::NotBuilt),
+        _ => Command::Refused(Reason::Unknown),
     }
-    if word == b"end".as_slice() {
-        if rest == b"".as_slice() {
-            return Command::End;
-        }
-        return Command::Refused(Reason::BadArgument);
-    }
-    if words.has(word) {
-        return Command::Refused(Reason::NotBuilt);
-    }
-    Command::Refused(Reason::Unknown)
 }
 
-fn command_at<'a>(words: &Words, line: &'a [u8]) -> Command<'a>
+fn command_at<'a>(words: &Words, line: &'a str) -> Command<'a>
     ensures { command_seen result ≡ command_in line.now }
 {
     if is_blank_line(line) {
         return Command::Nothing;
     }
-    command_from(words, word_of(line), past_word(line))
+    let (word, rest) = parted(line);
+    command_from(words, word, rest)
 }
 
 // What a line that is not too long asks for.
@@ -178,12 +163,12 @@ fn read_text<'a>(words: &Words, line: &'a [u8]) -> Command<'a>
 {
     match std::str::from_utf8(line) {
         Err(_) => Command::Refused(Reason::NotUtf8),
-        Ok(_) => command_at(words, without_return(line)),
+        Ok(text) => command_at(words, without_return(text)),
     }
 }
 
 /// What a line asks for, by how it ends: it is whole here, or the front of one that is too long.
-pub fn read<'a>(words: &Words, end: LineEnd, line: &'a [u8]) -> Command<'a>
+pub(crate) fn read<'a>(words: &Words, end: LineEnd, line: &'a [u8]) -> Command<'a>
     ensures { command_seen result ≡ command_for end line.now }
 {
     if is_remark(line) {
@@ -197,7 +182,7 @@ pub fn read<'a>(words: &Words, end: LineEnd, line: &'a [u8]) -> Command<'a>
 }
 
 /// The line that a refusal prints.
-pub fn line_of(alloc: Global, reason: Reason) -> Result<String, AllocError>
+pub(crate) fn line_of(alloc: Global, reason: Reason) -> Result<String, AllocError>
     ensures { IfOk result (λ line. string_bytes line ≡ line_of_reason (reason_seen reason)) }
 {
     match reason {

@@ -1,59 +1,56 @@
-// Why a session does not start.
+//! Why a session does not start.
 ghost use Rattle.std.specs.Prelude.{◌≡◌, ◌++◌, IfOk, string_bytes};
 ghost use Rattle.zw_def.specs.Path.{path_text};
-ghost use Rattle.zw_def_session.specs.Start.{line_of_refusal};
-ghost use Rattle.zw_top.specs.Refusals.{refusal_seen};
-ghost use Rattle.zw_top.specs.declared.refusal.Stop.TheVariants.{Memory};
+ghost use Rattle.zw_def_thin.specs.Refusal.{line_of_refusal};
+ghost use Rattle.zw_top.specs.Refusal.{refusal_seen};
 
-use std::alloc::{AllocError, AllocFailed, Global};
+use std::alloc::{AllocError, Global};
+use zw_base::Fault;
 use zw_path::Path;
 
-/// Why words, configuration or tree are refused.
+/// Why a configuration or a tree is refused.
 #[derive(Debug, Drop)]
-pub enum Refusal {
-    BadWords,
+pub(crate) enum Refusal {
+    /// There is no configuration.
     NoConfiguration,
+    /// The configuration is none that is built so far.
     OtherConfiguration,
+    /// The file is none that is carried out so far.
     OtherFile(Path),
+    /// More paths are listed than may be.
     LongListing,
+    /// The tree has more files than it may have.
     ManyFiles,
+    /// The file has more bytes than it may have.
     LargeFile(Path),
+    /// The tree has more bytes than it may have.
     LargeTree,
 }
 
-/// Why a session does not start.
+/// Why a step of the start gives nothing, want of memory aside.
 #[derive(Debug, Drop)]
-pub enum Stop {
-    Refused(Refusal),
+pub(crate) enum Stop {
+    /// The session is refused.
+    Refusal(Refusal),
+    /// A call of the folder failed.
     FolderFault,
-    Memory,
 }
 
-impl From<AllocError> for Stop {
-    ghost from_gives = { λ _ stop. stop ≡ Memory };
+/// Why a step of the start gives nothing.
+pub(crate) type StartFault = Fault<Stop>;
 
-    fn from(_error: AllocError) -> Stop {
-        Stop::Memory
-    }
-}
-
-impl<T: Drop> From<AllocFailed<T>> for Stop {
-    ghost from_gives = { λ _ stop. stop ≡ Memory };
-
-    fn from(_error: AllocFailed<T>) -> Stop {
-        Stop::Memory
-    }
+/// The fault of a session that is refused.
+pub(crate) fn refused(refusal: Refusal) -> StartFault
+    ensures { result ≡ Fault.Refused (Stop.Refusal refusal) }
+{
+    Fault::Refused(Stop::Refusal(refusal))
 }
 
 /// The line that a refusal prints.
-pub fn line_of(alloc: Global, refusal: &Refusal) -> Result<String, AllocError>
+pub(crate) fn line_of(alloc: Global, refusal: &Refusal) -> Result<String, AllocError>
     ensures { IfOk result (λ line. string_bytes line ≡ line_of_refusal (refusal_seen refusal.now)) }
 {
     match refusal {
-        Refusal::BadWords => String::from_str(
-            alloc,
-            "usage: zw [--budget N] [--log] [--steps] [--eager] CONFIG",
-        ),
         Refusal::NoConfiguration => String::from_str(alloc, "config: missing"),
         Refusal::OtherConfiguration => String::from_str(alloc, "config: not built"),
         Refusal::OtherFile(path) => with_path(alloc, "not built: ", path),

@@ -1,40 +1,25 @@
-// The command stream.
-ghost use Rattle.std.specs.Prelude.{◌≡◌, ◌≢◌, IfOk, IfSome, MatchBool, string_bytes};
-ghost use Rattle.zw_def_world.specs.Evaluation.{World};
-ghost use Rattle.zw_def_session.specs.Command as defined;
-ghost use Rattle.zw_def_session.specs.Output.{answer_to, answer_to_run};
-ghost use Rattle.zw_run.specs.Held.{Held};
-ghost use Rattle.zw_run.specs.World.{StandsFor};
-ghost use Rattle.zw_top.specs.Commands.{command_seen, reason_seen};
-ghost use Rattle.zw_top.specs.Replies.{AnswersTo, PutsLine, CountsPut, Replies, CountsReply, CutsShort, CountsCut, Serves, CountsServed};
+//! The command stream.
+ghost use Rattle.std.specs.Prelude.{◌≡◌, ◌≢◌, IfOk, IfSome, MatchBool};
+ghost use Rattle.zw_def_thin.specs.Evaluation.{World};
+ghost use Rattle.zw_def_thin.specs.Command as defined;
+ghost use Rattle.zw_def_thin.specs.Session.{answer_to, answer_to_run};
+ghost use Rattle.zw_thin.specs.World.{StandsFor};
+ghost use Rattle.zw_top.specs.Command.{command_seen, reason_seen};
+ghost use Rattle.zw_top.specs.Reply.{AnswersRun, AnswersCommand, AnswersReason, AnswersAs, RepliesTo, CountsReply, EndsFor, CutsShort, CountsCut, Serves, CountsServed};
+ghost use Rattle.zw_top.specs.Stream.{TakesStream};
 
 use crate::Status;
 use crate::command::{self, Command, Reason, Words};
+use crate::line::put_line;
 use std::alloc::{AllocError, Global};
 use zw_io::{LineEnd, Lines, LinesFault, Out, Sink, Source};
-use zw_run::Session;
-
-// Writes a line with its LF, whole.
-pub fn put_line<K: Sink>(out: &mut Out<K>, line: String) -> Result<(), Status>
-    ensures same_sink { out.new.sink.ghost_name ≡ out.old.sink.ghost_name }
-    ensures puts { PutsLine result (string_bytes line) (K.taken out.old.sink.now) (K.taken out.new.sink.now) }
-    ensures counts { CountsPut result (K.faults out.old.sink.now) (K.faults out.new.sink.now) }
-{
-    let mut line = line;
-    if line.push('\n').is_err() {
-        return Err(Status::Memory);
-    }
-    match out.put(line.as_bytes()) {
-        Ok(()) => Ok(()),
-        Err(_) => Err(Status::WriteFault),
-    }
-}
+use zw_thin::Session;
 
 // ---- one line
 
 /// What a command answers.
 #[derive(Debug, Drop)]
-pub enum Answer {
+pub(crate) enum Answer {
     /// Nothing is printed, and the session goes on.
     Passed,
     /// The session ends.
@@ -44,19 +29,20 @@ pub enum Answer {
 }
 
 fn refusal_of(alloc: Global, reason: Reason) -> Result<Answer, AllocError>
-    ensures { IfOk result (λ answer. (world : World) (held : Held) → StandsFor world held → AnswersTo world held answer (answer_to world (defined.refused (reason_seen reason)))) }
+    ensures answers { IfOk result (AnswersReason (reason_seen reason)) }
+    ensures ends { IfOk result (AnswersAs (defined.refused (reason_seen reason))) }
 {
     Ok(Answer::Answered(command::line_of(alloc, reason)?))
 }
 
 // What the command `run` answers.
-fn evaluate(alloc: Global, session: &mut Session, text: &[u8]) -> Result<Answer, AllocError>
-    ensures { IfOk result (λ answer. (world : World) → StandsFor world session.old → AnswersTo world session.new answer (answer_to_run world text.now)) }
+fn evaluate(alloc: Global, session: &mut Session, text: &str) -> Result<Answer, AllocError>
+    ensures answers { IfOk result (AnswersRun session.old session.new text.now) }
+    ensures ends { IfOk result (AnswersAs (defined.run text.now)) }
 {
-    match session.run(alloc, text) {
-        Err(error) => Err(error),
-        Ok(Some(line)) => Ok(Answer::Answered(line)),
-        Ok(None) => refusal_of(alloc, Reason::NotBuilt),
+    match session.run(alloc, text.as_bytes())? {
+        Some(line) => Ok(Answer::Answered(line)),
+        None => refusal_of(alloc, Reason::NotBuilt),
     }
 }
 
@@ -65,7 +51,8 @@ fn answer_for(
     session: &mut Session,
     command: Command<'_>,
 ) -> Result<Answer, AllocError>
-    ensures { IfOk result (λ answer. (world : World) → StandsFor world session.old → AnswersTo world session.new answer (answer_to world (command_seen command.entry))) }
+    ensures answers { IfOk result (AnswersCommand session.old session.new (command_seen command.entry)) }
+    ensures ends { IfOk result (AnswersAs (command_seen command.entry)) }
 {
     match command {
         Command::Nothing => Ok(Answer::Passed),
@@ -83,8 +70,10 @@ fn reply<K: Sink>(
     command: Command<'_>,
 ) -> Result<(), Status>
     ensures same_sink { out.new.sink.ghost_name ≡ out.old.sink.ghost_name }
-    ensures replies { (world : World) → StandsFor world session.old → Replies result world session.new (answer_to world (command_seen command.entry)) (K.taken out.old.sink.now) (K.taken out.new.sink.now) }
+    ensures replies { RepliesTo result session.old session.new (command_seen command.entry)
+        (K.taken out.old.sink.now) (K.taken out.new.sink.now) }
     ensures counts { CountsReply result (K.faults out.old.sink.now) (K.faults out.new.sink.now) }
+    ensures ends { EndsFor result (command_seen command.entry) }
 {
     match answer_for(alloc, session, command) {
         Err(_) => Err(Status::Memory),
@@ -125,7 +114,7 @@ fn cut_short<K: Sink>(alloc: Global, out: &mut Out<K>, fault: LinesFault) -> Sta
 }
 
 /// Answers the lines of the stream.
-pub fn serve<S: Source, K: Sink>(
+pub(crate) fn serve<S: Source, K: Sink>(
     alloc: Global,
     session: Session,
     source: &mut S,
@@ -134,7 +123,9 @@ pub fn serve<S: Source, K: Sink>(
     ensures same_sink { out.new.sink.ghost_name ≡ out.old.sink.ghost_name }
     ensures serves { (world : World) → StandsFor world session → IfSome (S.left source.old) (λ bytes.
         Serves result world bytes (S.left source.new) (K.taken out.old.sink.now) (K.taken out.new.sink.now)) }
-    ensures counts { CountsServed result (S.faults source.old) (S.faults source.new) (K.faults out.old.sink.now) (K.faults out.new.sink.now) }
+    ensures takes { IfSome (S.left source.old) (λ bytes. TakesStream result bytes (S.left source.new)) }
+    ensures counts { CountsServed result (S.faults source.old) (S.faults source.new)
+        (K.faults out.old.sink.now) (K.faults out.new.sink.now) }
 {
     let words = Words::new();
     let mut current = session;

@@ -1,4 +1,4 @@
-use Rattle.zw_top.proofs.Streams.{cut_line}
+use Rattle.zw_top.proofs.ReplyLemmas.{cut_line}
 use Rattle.zw_top.proofs.stream.cut_short.Goals as goal
 
 pub returns-in-Err-put_line-clause-cuts : goal.returns-in-Err-put_line-clause-cuts

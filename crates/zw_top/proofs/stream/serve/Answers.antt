@@ -1,7 +1,10 @@
 use Rattle.std.proofs.Common.{rules, ◌∙◌, ap, refl, []}
-use Rattle.zw_top.specs.Replies.{command_for}
-use Rattle.zw_top.proofs.Streams.{cut_serves, cut_counts, counts_at, tie, ends_stream, goes_on_by, goes_start, reply_serves_by, reply_counts}
-use Rattle.zw_top.specs.Commands.{command_seen}
+use Rattle.zw_def.proofs.ToldLemmas.{draws_more}
+use Rattle.zw_top.specs.Command.{command_seen, command_for}
+use Rattle.zw_top.proofs.StreamLemmas.{cut_serves, ends_stream, goes_start}
+use Rattle.zw_top.proofs.ReplyLemmas.{cut_counts, counts_at, tie, goes_on_by, reply_serves_by, reply_counts}
+use Rattle.zw_top.proofs.PassingLemmas.{passes_start, passes_on, passes_end, draws_start, takes_by, leaves_by_end, leaves_at_end, ended_source, not_cut, ends_done}
+use Rattle.zw_top.specs.declared.status.Status.TheVariants.{Done}
 use Rattle.zw_top.proofs.stream.serve.Goals as goal
 
 pub returns-in-Err-clause-serves : goal.returns-in-Err-clause-serves
@@ -30,6 +33,11 @@ stream-preserved g c = record {
       goes_on_by world _ _ c.in-Ok.end _ _ _ _ _ _ _ _ _ _ _ (command_seen c.read.result) c.if-is_last.ensures (c.stream.invariant.told world stands)
       (c.in-Ok.ensures.answer c.stream.invariant.fresh) (c.in-Ok.ensures.met c.stream.invariant.fresh)
       (c.read.ensures ∙ ap (command_for c.in-Ok.end) c.deref.ensures.value) c.in-Ok-reply.ensures.replies;
+  passes =
+      passes_on _ _ _ c.in-Ok.end _ _ _ (command_seen c.read.result) c.if-is_last.ensures c.stream.invariant.passes
+      (c.in-Ok.ensures.answer c.stream.invariant.fresh) (c.read.ensures ∙ ap (command_for c.in-Ok.end) c.deref.ensures.value) c.in-Ok-reply.ensures.ends;
+  draws = draws_more _ _ _ _ _ _ _ _ _ c.stream.invariant.draws c.next_line.ensures.draws;
+  sound = c.next_line.ensures.sound c.stream.invariant.sound;
 }
 
 pub returns-in-Err-reply-clause-serves : goal.returns-in-Err-reply-clause-serves
@@ -51,4 +59,29 @@ stream-init g c = record {
   source_counts = search rules;
   sink_counts = search rules;
   told = λ world stands. goes_start world _ _ _ _ _ _ _ stands c.new-lines.ensures.left refl c.new-lines.ensures.room;
+  passes = passes_start _ _ _ c.new-lines.ensures.left c.new-lines.ensures.room;
+  draws = draws_start _ _ _ _ (ap g.S.Source.left c.new-lines.ensures.source) c.new-lines.ensures.block c.new-lines.ensures.room;
+  sound = c.new-lines.ensures.sound;
 }
+
+-- ---- what is taken
+
+pub returns-in-Err-clause-takes : goal.returns-in-Err-clause-takes
+returns-in-Err-clause-takes g c =
+    takes_by g.S.Source.left _ _ c.cut_short.result _ _ _ (search rules) (draws_more _ _ _ _ _ _ _ _ _ c.stream.invariant.draws c.next_line.ensures.draws)
+    (c.next_line.ensures.sound c.stream.invariant.sound).within (λ done. not_cut c.cut_short.result _ _ _ _ _ c.cut_short.ensures.cuts done)
+
+pub returns-then-is_last-clause-takes : goal.returns-then-is_last-clause-takes
+returns-then-is_last-clause-takes g c =
+    let draws = draws_more _ _ _ _ _ _ _ _ _ c.stream.invariant.draws c.next_line.ensures.draws in
+    let sound = c.next_line.ensures.sound c.stream.invariant.sound in
+    takes_by g.S.Source.left _ _ Done _ _ _ (search rules) draws sound.within (λ done.
+    leaves_at_end _ _ _ _ draws (ended_source _ _ _ _ c.stream.lines.is_ended c.next_line.new.self.is_ended c.stream.invariant.passes (rw c.if-is_last.ensures at (c.in-Ok.ensures.met c.stream.invariant.fresh)) sound.ended))
+
+pub returns-in-Err-reply-clause-takes : goal.returns-in-Err-reply-clause-takes
+returns-in-Err-reply-clause-takes g c =
+    takes_by g.S.Source.left _ _ c.in-Err-reply.status _ _ _ (search rules) (draws_more _ _ _ _ _ _ _ _ _ c.stream.invariant.draws c.next_line.ensures.draws)
+    (c.next_line.ensures.sound c.stream.invariant.sound).within (λ done.
+    leaves_by_end _ _ (passes_end _ _ _ c.in-Ok.end _ _ _ (command_seen c.read.result) c.if-is_last.ensures c.stream.invariant.passes
+    (c.in-Ok.ensures.answer c.stream.invariant.fresh) (c.read.ensures ∙ ap (command_for c.in-Ok.end) c.deref.ensures.value)
+    (ends_done c.in-Err-reply.status (command_seen c.read.result) done c.in-Err-reply.ensures.ends)))

@@ -1,8 +1,11 @@
-use Rattle.std.proofs.Common.{◌≡◌, None}
-use Rattle.zw_def_world.specs.Evaluation.{World}
+use Rattle.std.proofs.Common.{◌≡◌, None, IfSome, length}
+use Rattle.zw_def_thin.specs.Evaluation.{World}
 use Rattle.zw_io.specs.State.{bytes_left}
-use Rattle.zw_run.specs.World.{StandsFor}
-use Rattle.zw_top.proofs.Streams.{GoesIfTold}
+use Rattle.zw_thin.specs.World.{StandsFor}
+use Rattle.zw_io.specs.Drawn.{IsSound}
+use Rattle.zw_def.specs.Told.{Draws}
+use Rattle.zw_top.proofs.StreamLemmas.{GoesIfTold}
+use Rattle.zw_top.proofs.PassingLemmas.{PassesIfTold}
 use Rattle.zw_top.proofs.stream.serve.Given as goal
 
 abbrev pub invariant-stream : goal.invariant-stream
@@ -13,6 +16,9 @@ invariant-stream g l = record {
   source_counts : g.S.Source.faults l.lines.source.now ≡ g.S.Source.faults l.fn.source;
   sink_counts : g.K.Sink.faults l.out.sink.now ≡ g.K.Sink.faults l.fn.out.sink.now;
   told : (world : World) → StandsFor world l.fn.session → GoesIfTold world l.current (g.S.Source.left l.fn.source) (bytes_left g.S.Source.left l.lines) (g.K.Sink.taken l.fn.out.sink.now) (g.K.Sink.taken l.out.sink.now) l.lines.room l.lines.is_ended;
+  passes : PassesIfTold (g.S.Source.left l.fn.source) (bytes_left g.S.Source.left l.lines) l.lines.room;
+  draws : IfSome (g.S.Source.left l.fn.source) (λ bytes. Draws bytes 0 1073741824 (g.S.Source.left l.lines.source.now) (length l.lines.block) l.lines.room);
+  sound : IsSound g.S.Source.left l.lines;
 }
 
 abbrev pub decreases-stream : goal.decreases-stream

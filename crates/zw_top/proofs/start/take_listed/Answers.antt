@@ -1,8 +1,0 @@
-use Rattle.zw_top.proofs.Starts.{with_other, with_valid}
-use Rattle.zw_top.proofs.start.take_listed.Goals as goal
-
-pub returns-in-Err-clause-told : goal.returns-in-Err-clause-told
-returns-in-Err-clause-told g c = with_other _ c.args.fixed.now c.args.tree.now c.args.bytes.now c.in-Err.ensures.cases.0
-
-pub returns-in-Ok-clause-told : goal.returns-in-Ok-clause-told
-returns-in-Ok-clause-told g c = with_valid _ c.args.fixed.now c.args.tree.now _ c.args.bytes.now _ c.in-Ok.ensures.cases.1 (rw c.in-Ok.ensures.cases.0 at c.take_text.ensures.told)
