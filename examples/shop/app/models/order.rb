@@ -1,0 +1,5 @@
+class Order
+  def self.limit
+    12
+  end
+end

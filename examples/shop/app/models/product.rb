@@ -1,0 +1,8 @@
+class Product
+  def self.price
+    40
+  end
+  def self.stock
+    3
+  end
+end
