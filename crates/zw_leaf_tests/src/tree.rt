@@ -3,7 +3,7 @@ use std::alloc::Global;
 use std::process::Abort;
 use std::test::Fail;
 use zw_path::Path;
-use zw_tree::Tree;
+use zw_thin_tree::Tree;
 
 /// Listed paths in their order, and whether each is taken.
 const LISTING: &[(&str, bool)] = &[

@@ -3,7 +3,7 @@ ghost use Rattle.std.specs.Prelude.{◌≡◌, ◌<◌, IfOk, IfSome, OnOk, opti
 ghost use Rattle.std.specs.Str.{bytes_eq};
 ghost use Rattle.zw_def.specs.Names.{OnlyGrows};
 ghost use Rattle.zw_def_thin.specs.Map.{is_directly_below, expected_name};
-ghost use Rattle.zw_tree.specs.File.{file_seen};
+ghost use Rattle.zw_thin_tree.specs.File.{file_seen};
 ghost use Rattle.zw_thin.specs.ClassFile.{ClassNamed};
 ghost use Rattle.zw_thin.specs.Key.{idle_seen, keys_seen, KeysNamed, NewKeyNamed};
 ghost use Rattle.zw_thin.specs.Held.{idle_file, without_file};
@@ -17,7 +17,7 @@ use std::alloc::{AllocError, Global};
 use zw_base::is_plain_word;
 use zw_names::{Name, Names, is_constant};
 use zw_path::Path;
-use zw_tree::File;
+use zw_thin_tree::File;
 
 /// A file that was not evaluated yet.
 #[derive(Drop)]

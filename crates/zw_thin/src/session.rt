@@ -21,7 +21,7 @@ use std::marker::Model;
 use zw_base::Fault;
 use zw_names::Names;
 use zw_path::Path;
-use zw_tree::Tree;
+use zw_thin_tree::Tree;
 
 /// The path of the first visible file, in path order, that is not carried out so far.
 #[derive(Debug, Drop)]

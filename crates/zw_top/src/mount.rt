@@ -13,7 +13,7 @@ use crate::refusal::{Refusal, StartFault, refused};
 use std::alloc::{AllocError, Global};
 use zw_io::Folder;
 use zw_path::Path;
-use zw_tree::Tree;
+use zw_thin_tree::Tree;
 
 // The path that a listed text tells, where it is taken into the tree so far.
 fn taken_path(

@@ -16,7 +16,7 @@ use zw_base::Fault;
 use zw_io::Folder;
 use zw_path::Path;
 use zw_thin::{NotBuilt, Session, SessionFault};
-use zw_tree::Tree;
+use zw_thin_tree::Tree;
 
 fn session_at(alloc: Global, root: &Path, tree: &Tree) -> Result<Session, StartFault>
     ensures gives { GivesSession result (world_of root.now tree.now) }

@@ -4,7 +4,7 @@ use std::process::Abort;
 use std::test::Fail;
 use zw_path::Path;
 use zw_thin::{NotBuilt, Session, SessionFault};
-use zw_tree::Tree;
+use zw_thin_tree::Tree;
 
 type Files = &'static [(&'static str, &'static str)];
 

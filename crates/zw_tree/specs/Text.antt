@@ -6,6 +6,6 @@ use Rattle.zw_def.specs.Text.{Text}
 use Rattle.zw_def.specs.Path.{Path, same_path}
 use Rattle.zw_def.specs.Tree.{Tree}
 
--- the text of the first file with this path
+-- the text of the file with this path
 abbrev pub text_at : Path → Tree → Option Text
 text_at path tree = option_map (λ file. file.text) (find (λ file. same_path file.path path) tree)

@@ -1,9 +1,25 @@
-//! The tree of files that a listing gives: a list of files in path order. The crate stands on the definitions of trees
-//! in `zw_def` and on the paths of `zw_path`. It promises that asking whether a listed path is taken takes no memory,
-//! that a file is put at its place in path order, and that a file that found no memory leaves the tree as it was.
+//! The tree of files that is edited, and the one that is mounted. Files are kept by directories, each a list of entries
+//! by name. The crate stands on the definitions of trees in `zw_def`, on the paths of `zw_path` and on the steps of
+//! `zw_meter`. It promises that each edit does exactly what it says or is refused for the first reason that holds, that
+//! a mount makes the trees equal and tells the paths that were edited, and that entries and texts are those of the tree.
+//! Nothing here takes stack for each level of a path.
 #![tactic(auto)]
 
+mod directory;
+mod edit;
+mod entry;
+mod fault;
+mod folder;
 mod ruby;
-pub mod tree;
+mod seek;
+mod shared;
+mod staged;
+mod trail;
+mod tree;
 
-pub use tree::{File, Tree};
+pub use directory::Directory;
+pub use entry::Entry;
+pub use fault::{EditFault, TreeFault};
+pub use ruby::is_ruby;
+pub use staged::{StagedTree, Touched};
+pub use tree::Tree;

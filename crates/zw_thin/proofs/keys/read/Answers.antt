@@ -4,7 +4,7 @@ use Rattle.zw_def_thin.specs.ClassFile.{class_file, is_core}
 use Rattle.zw_def.specs.Text.{is_plain_word}
 use Rattle.zw_def.specs.Names.{text_of}
 use Rattle.zw_def.proofs.NameLemmas.{OnlyGrows-trans, text_later, number_grown}
-use Rattle.zw_tree.specs.File.{file_seen}
+use Rattle.zw_thin_tree.specs.File.{file_seen}
 use Rattle.zw_thin.specs.ClassFile.{class_seen, ClassNamed}
 use Rattle.zw_thin.proofs.StartLemmas.{key_read}
 use Rattle.zw_thin.proofs.keys.read.Goals as goal

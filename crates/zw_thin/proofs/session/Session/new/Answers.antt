@@ -5,7 +5,7 @@ use Rattle.zw_def_thin.specs.Map.{visible}
 use Rattle.zw_def.specs.Path.{is_below}
 use Rattle.zw_def_thin.specs.Built.{first_other_from, expected_names}
 use Rattle.zw_def.proofs.NameLemmas.{OnlyGrows-trans}
-use Rattle.zw_tree.specs.File.{file_seen}
+use Rattle.zw_thin_tree.specs.File.{file_seen}
 use Rattle.zw_thin.specs.Key.{keys_seen}
 use Rattle.zw_thin.specs.Start.{names_in, first_key, with_names, TakesKey, HasNoKey}
 use Rattle.zw_thin.specs.Class.{classes_seen}

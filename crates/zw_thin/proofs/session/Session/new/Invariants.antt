@@ -2,7 +2,7 @@ use Rattle.std.proofs.Common.{◌≡◌, ◌++◌, [], drop, map}
 use Rattle.std.specs.List.{filter_map}
 use Rattle.zw_def_thin.specs.Map.{visible}
 use Rattle.zw_def_thin.specs.Built.{expected_names, first_other, first_other_from}
-use Rattle.zw_tree.specs.File.{file_seen}
+use Rattle.zw_thin_tree.specs.File.{file_seen}
 use Rattle.zw_thin.specs.Key.{keys_seen, KeysNamed}
 use Rattle.zw_thin.specs.Start.{names_in, first_key, with_names, IsFront}
 use Rattle.zw_thin.proofs.session.Session.new.Given as goal

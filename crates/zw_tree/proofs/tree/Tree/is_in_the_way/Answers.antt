@@ -1,14 +1,23 @@
-use Rattle.std.proofs.Common.{◌||◌, ◌∙◌, ap, sym}
-use Rattle.std.specs.List.{list_any}
-use Rattle.zw_def.specs.Path.{is_below}
-use Rattle.zw_def.specs.Tree.{File}
-use Rattle.zw_def.proofs.DirectoryLemmas.{in_the_way_parts}
+use Rattle.std.proofs.Common.{ap, sym, ◌∙◌, ◌||◌}
+use Rattle.std.specs.Prelude.{is_some}
+use Rattle.zw_tree.specs.Spot.{spot_text, spot_blocked}
+use Rattle.zw_tree.proofs.StageLemmas.{in_the_way}
 use Rattle.zw_tree.proofs.tree.Tree.is_in_the_way.Goals as goal
 
-pub returns-then-is_taken : goal.returns-then-is_taken
-returns-then-is_taken c =
-    c.if-is_taken.true ∙ ap (λ b. b || list_any (λ (f : File). is_below c.args.path.now f.path) c.args.self.now) (sym c.if-is_taken.true ∙ c.is_taken.ensures) ∙ sym (in_the_way_parts c.args.self.now c.args.path.now)
+pub returns-in-File : goal.returns-in-File
+returns-in-File c =
+    let text = sym c.seek.ensures.text ∙ ap spot_text c.in-File.is in
+    let blocked = sym c.seek.ensures.blocked ∙ ap spot_blocked c.in-File.is in
+    sym (in_the_way c.args.self.now c.args.path.now ∙ (λ i. is_some (text i) || blocked i))
 
-pub returns-else-is_taken : goal.returns-else-is_taken
-returns-else-is_taken c =
-    c.is_below_file.ensures ∙ ap (λ b. b || list_any (λ (f : File). is_below c.args.path.now f.path) c.args.self.now) (sym c.if-is_taken.false ∙ c.is_taken.ensures) ∙ sym (in_the_way_parts c.args.self.now c.args.path.now)
+pub returns-in-Blocked : goal.returns-in-Blocked
+returns-in-Blocked c =
+    let text = sym c.seek.ensures.text ∙ ap spot_text c.in-Blocked.is in
+    let blocked = sym c.seek.ensures.blocked ∙ ap spot_blocked c.in-Blocked.is in
+    sym (in_the_way c.args.self.now c.args.path.now ∙ (λ i. is_some (text i) || blocked i))
+
+pub returns-in-Free : goal.returns-in-Free
+returns-in-Free c =
+    let text = sym c.seek.ensures.text ∙ ap spot_text c.in-Free.is in
+    let blocked = sym c.seek.ensures.blocked ∙ ap spot_blocked c.in-Free.is in
+    sym (in_the_way c.args.self.now c.args.path.now ∙ (λ i. is_some (text i) || blocked i))
