@@ -1,0 +1,11 @@
+pub mod ListLemmas
+pub mod PlaceLemmas
+pub mod ReachLemmas
+pub mod FoundedLemmas
+pub mod SoundLemmas
+pub mod ChangeLemmas
+pub mod WriteLemmas
+pub mod BootLemmas
+pub mod CoreLemmas
+pub mod NewLemmas
+pub mod AddsLemmas

@@ -1,0 +1,13 @@
+pub mod Place
+pub mod ModuleRecord
+pub mod ObjectRecord
+pub mod CoreClass
+pub mod Heap
+pub mod Refusal
+pub mod Reach
+pub mod Founded
+pub mod Sound
+pub mod HeapSeen
+pub mod New
+pub mod Telling
+pub mod Change

@@ -1,0 +1,13 @@
+//! Texts in double quotes, and the lines of faults. It stands on the definitions of these in `zw_def_world`. It
+//! promises that each is exactly as defined, and that a text in quotes is refused exactly where it would be longer
+//! than a text may be, as soon as it is.
+#![tactic(auto)]
+
+mod fault;
+mod line;
+mod piece;
+mod quote;
+mod writer;
+
+pub use fault::{ShowFault, TooLong};
+pub use line::{fault_line, quoted};
