@@ -1,0 +1,4 @@
+mod RowLemmas
+mod KindLemmas
+mod FormLemmas
+mod OperatorLemmas

@@ -1,0 +1,6 @@
+pub mod Node
+pub mod Grown
+pub mod Gives
+pub mod Named
+pub mod Operator
+pub mod Part
