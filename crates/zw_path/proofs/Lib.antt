@@ -1,2 +1,3 @@
 pub mod BadPathLemmas
 pub mod MatchingLemmas
+pub mod ShapeLemmas

@@ -13,4 +13,4 @@ mod symbol;
 
 pub use bad_path::{BadPath, PathFault};
 pub use path::Path;
-pub use pattern::Pattern;
+pub use pattern::{Pattern, matches_component};

@@ -1,5 +1,5 @@
 //! Paths.
-ghost use Rattle.std.specs.Prelude.{◌≡◌, Some, IfOk, map, string_bytes, refl};
+ghost use Rattle.std.specs.Prelude.{◌≡◌, ◌<◌, ◌≤◌, Some, IfOk, length, map, string_bytes, take, refl};
 ghost use Rattle.std.specs.Ordering.{nat_cmp};
 ghost use Rattle.std.specs.Cmp.{po, partial_equiv_from_equiv};
 ghost use Rattle.std.specs.Cmp.Lexicographic.{slice_cmp, lists_equiv, lists_total, lists_ties, nat_list_eq_equiv, nat_list_cmp_total, texts_ties};
@@ -100,6 +100,19 @@ impl Path {
     {
         let mut components = Vec::with_capacity(alloc, self.components.len())?;
         for component in &self.components {
+            components.push(String::from_str(alloc, component)?)?;
+        }
+        Ok(Path { components })
+    }
+
+    /// The path of its first components, so many.
+    pub fn beginning(&self, alloc: Global, depth: usize) -> Result<Path, AllocError>
+        requires some { 0 < depth }
+        requires within { depth ≤ length self.now }
+        ensures { IfOk result (λ path. path ≡ take depth self.now) }
+    {
+        let mut components = Vec::with_capacity(alloc, depth)?;
+        for component in &self.components[..depth] {
             components.push(String::from_str(alloc, component)?)?;
         }
         Ok(Path { components })

@@ -1,7 +1,7 @@
 //! Patterns.
-ghost use Rattle.std.specs.Prelude.{◌≡◌, ◌↔◌, Some, IfOk, IsTrue};
+ghost use Rattle.std.specs.Prelude.{◌≡◌, ◌↔◌, Some, IfOk, IsTrue, map, string_bytes};
 ghost use Rattle.zw_def.specs.Path.{path_of};
-ghost use Rattle.zw_def.specs.Pattern.{matches, StandsFor};
+ghost use Rattle.zw_def.specs.Pattern.{matches, matches_part, StandsFor};
 ghost use Rattle.zw_base.specs.Fault.{IfRefused};
 ghost use Rattle.zw_path.specs.BadPath.{bad_path};
 
@@ -44,6 +44,13 @@ impl Pattern {
         Ok(Pattern { path })
     }
 
+    /// The components, from the outermost on.
+    pub fn components(&self) -> &[String]
+        ensures { map string_bytes result.now ≡ self.now }
+    {
+        self.path.components()
+    }
+
     /// Whether the pattern stands for the path.
     pub fn matches(&self, path: &Path) -> bool
         ensures value { result ≡ matches self.now path.now }
@@ -51,4 +58,11 @@ impl Pattern {
     {
         can_match(self.path.components(), path.components())
     }
+}
+
+/// Whether a component of a pattern, which is not `**`, stands for a component of a path.
+pub fn matches_component(pattern: &str, component: &str) -> bool
+    ensures { result ≡ matches_part pattern.now component.now }
+{
+    can_match(pattern.as_bytes(), component.as_bytes())
 }
