@@ -1,5 +1,5 @@
 //! Constant paths.
-ghost use Rattle.std.specs.Prelude.{◌≡◌, ◌<◌, ◌-◌, ◌↔◌, [], ◌∷◌, ◌++◌, Some, None, Err, IsNone, IfSome, IfOk, OnOk, length, map, slice_get, take, string_bytes};
+ghost use Rattle.std.specs.Prelude.{◌≡◌, ◌<◌, ◌-◌, ◌↔◌, [], ◌∷◌, ◌++◌, Some, None, Err, IsNone, IfSome, IfOk, OnOk, OnErr, length, map, slice_get, take, string_bytes};
 ghost use Rattle.zw_def.specs.ConstantPath.{parts_of, constant_path_of, constant_path_text, scoped};
 ghost use Rattle.zw_base.specs.Fault.{IsRefusedFor};
 ghost use Rattle.zw_def.specs.Names.{OnlyGrows, AreNamed, texts_of};
@@ -138,6 +138,15 @@ impl CPath {
         let mut names = Vec::from_slice(alloc, self.names.as_slice())?;
         names.push(name)?;
         Ok(CPath { names })
+    }
+
+    /// Goes on by one more name.
+    pub fn push(&mut self, name: Name) -> Result<(), AllocError>
+        ensures ok { OnOk result (self.new ≡ self.old ++ name.0 ∷ []) }
+        ensures err { OnErr result (self.new ≡ self.old) }
+    {
+        self.names.push(name)?;
+        Ok(())
     }
 
     /// The same path.
