@@ -85,13 +85,14 @@ fn inflect(alloc: Global, overrides: &Overrides, base: &str) -> Result<String, A
 
 impl Inflector {
     // The text that the inflector makes of a base, be it a name or not.
-    fn text(&self, alloc: Global, base: &str, path: &Path) -> Result<String, AllocError>
-        ensures { IfOk result (λ name. string_bytes name ≡ spec.inflected (inflector_seen self.now) base.now path.now) }
+    fn text(&self, alloc: Global, base: &str, path: &[String]) -> Result<String, AllocError>
+        ensures { IfOk result (λ name.
+            string_bytes name ≡ spec.inflected (inflector_seen self.now) base.now (map string_bytes path.now)) }
     {
         match self {
             Inflector::Default(overrides) => inflect(alloc, overrides, base),
             Inflector::Gem(overrides, main) => {
-                if base == VERSION_BASE && is_version_file(main.components(), path.components()) {
+                if base == VERSION_BASE && is_version_file(main.components(), path) {
                     String::from_str(alloc, VERSION_NAME)
                 } else {
                     inflect(alloc, overrides, base)
@@ -104,6 +105,19 @@ impl Inflector {
     /// its `.rb`.
     pub fn camelize(&self, alloc: Global, base: &str, path: &Path) -> Result<String, InflectFault>
         ensures { Camelizes result (spec.constant_inflected (inflector_seen self.now) base.now path.now) }
+    {
+        self.camelize_at(alloc, base, path.components())
+    }
+
+    /// The same of the path of these components.
+    pub fn camelize_at(
+        &self,
+        alloc: Global,
+        base: &str,
+        path: &[String],
+    ) -> Result<String, InflectFault>
+        ensures { Camelizes result (
+            spec.constant_inflected (inflector_seen self.now) base.now (map string_bytes path.now)) }
     {
         let name = self.text(alloc, base, path)?;
         if is_constant(&name) {
