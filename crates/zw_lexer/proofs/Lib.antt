@@ -9,4 +9,5 @@ pub mod SizeLemmas
 pub mod ScanLemmas
 pub mod SettleLemmas
 pub mod GapLemmas
+pub mod HeldLemmas
 pub mod SpanLaws

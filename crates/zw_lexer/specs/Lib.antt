@@ -10,3 +10,4 @@ pub mod Place
 pub mod Scan
 pub mod Token
 pub mod Settle
+pub mod Held

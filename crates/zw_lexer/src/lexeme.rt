@@ -5,6 +5,7 @@ ghost use Rattle.zw_def_syntax.specs.Piece.{gap, token};
 ghost use Rattle.zw_lexer.specs.Lexeme.{lexeme_seen, piece_seen};
 
 use crate::fault::Reason;
+use crate::magnitude::Magnitude;
 use crate::punctuation::Punctuation;
 use std::alloc::{AllocError, Global};
 use zw_base::Fault;
@@ -15,7 +16,7 @@ pub(crate) enum Lexeme {
     Newline,
     Identifier(String),
     Constant(String),
-    Integer(u64),
+    Integer(Magnitude),
     InstanceVariable(String),
     ClassVariable(String),
     Symbol(String),

@@ -5,6 +5,7 @@ ghost use Rattle.zw_def_syntax.specs.Lexed.{first_place, lexed, settled_scan, sc
 ghost use Rattle.zw_def_syntax.specs.Spans.{InOrder, CoversText};
 ghost use Rattle.zw_def.specs.Names.{OnlyGrows};
 ghost use Rattle.zw_lexer.specs.Fault.{Faults};
+ghost use Rattle.zw_lexer.specs.Held.{HoldNames};
 ghost use Rattle.zw_lexer.specs.Place.{place_seen};
 ghost use Rattle.zw_lexer.specs.Scan.{scan_seen};
 ghost use Rattle.zw_lexer.specs.Token.{tokens_seen, AreTokens};
@@ -84,6 +85,7 @@ fn lex_text(alloc: Global, text: &str, names: &mut Names) -> Result<Vec<Token>, 
 #[tactic(auto, unfolding(zw_def_syntax::specs::Lexed::lexed))]
 pub fn lex(alloc: Global, text: &[u8], names: &mut Names) -> Result<Vec<Token>, LexFault>
     ensures tokens { IfOk result (λ tokens. AreTokens names.new (lexed text.now) tokens.items) }
+    ensures held { IfOk result (λ tokens. HoldNames names.new tokens.items) }
     ensures fault { IfErr result (λ fault. Faults fault (lexed text.now)) }
     ensures in_order { IfOk result (λ tokens. InOrder 0 (tokens_seen names.new tokens.items)) }
     ensures between { IfOk result (λ tokens. CoversText text.now (tokens_seen names.new tokens.items)) }

@@ -11,6 +11,7 @@ ghost use Rattle.zw_lexer.specs.Number.{within_greatest};
 use crate::character::{front_length, is_number_part};
 use crate::fault::Reason;
 use crate::lexeme::{Lexeme, Piece, PieceFault};
+use crate::magnitude::Magnitude;
 
 // The base of the digits.
 const RADIX: u64 = 10;
@@ -100,6 +101,6 @@ pub(crate) fn number(characters: &[char]) -> Result<Piece, PieceFault>
     }
     match value_of(part) {
         None => Err(PieceFault::Refused(Reason::OutsideNumber)),
-        Some(value) => Ok(Piece::token(Lexeme::Integer(value), size)),
+        Some(value) => Ok(Piece::token(Lexeme::Integer(Magnitude::new(value)), size)),
     }
 }

@@ -1,5 +1,6 @@
 //! Tokens.
 use crate::keyword::Keyword;
+use crate::magnitude::Magnitude;
 use crate::punctuation::Punctuation;
 use zw_names::Name;
 
@@ -10,8 +11,7 @@ pub enum TokenKind {
     Newline,
     Identifier(Name),
     Constant(Name),
-    /// At most 9223372036854775807.
-    Integer(u64),
+    Integer(Magnitude),
     /// A variable `@x`, by its name without the `@`.
     InstanceVariable(Name),
     /// A variable `@@x`, by its name without the `@@`.

@@ -34,7 +34,7 @@ fn shown_kind(
         TokenKind::Newline => String::from_str(alloc, "NL"),
         TokenKind::Identifier(name) => String::from_str(alloc, text_of(rt, names, *name)),
         TokenKind::Constant(name) => quoted(alloc, "const ", text_of(rt, names, *name), ""),
-        TokenKind::Integer(number) => format!(in alloc; "int {number}"),
+        TokenKind::Integer(number) => format!(in alloc; "int {}", number.plain()),
         TokenKind::InstanceVariable(name) => quoted(alloc, "@", text_of(rt, names, *name), ""),
         TokenKind::ClassVariable(name) => quoted(alloc, "@@", text_of(rt, names, *name), ""),
         TokenKind::Symbol(name) => quoted(alloc, ":", text_of(rt, names, *name), ""),

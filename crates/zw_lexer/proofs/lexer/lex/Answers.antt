@@ -1,5 +1,6 @@
 use Rattle.std.proofs.Common.{sym, ◌∙◌}
 use Rattle.zw_def.proofs.NameLemmas.{OnlyGrows-same}
+use Rattle.zw_lexer.proofs.HeldLemmas.{names_held}
 use Rattle.zw_lexer.proofs.ScanLemmas.{map_IfOk}
 use Rattle.zw_lexer.proofs.SpanLaws.{text_covers, text_in_order}
 use Rattle.zw_lexer.proofs.SettleLemmas.{lexed_as, lexed_other, other_text, map_Faults}
@@ -9,6 +10,9 @@ pub returns-in-Ok-clause-tokens : goal.returns-in-Ok-clause-tokens
 returns-in-Ok-clause-tokens c =
     let whole = lexed_as c.args.text.now c.in-Ok.text.now c.in-Ok.ensures.cases.1 c.in-Ok.ensures.cases.0 in
     map_IfOk c.lex_text.result _ _ (λ tokens told all grows. whole ∙ told all grows) c.lex_text.ensures.told
+
+pub returns-in-Ok-clause-held : goal.returns-in-Ok-clause-held
+returns-in-Ok-clause-held c = map_IfOk c.lex_text.result _ _ (λ tokens told. names_held c.lex_text.new.names _ tokens.items told) c.lex_text.ensures.told
 
 pub returns-in-Ok-clause-fault : goal.returns-in-Ok-clause-fault
 returns-in-Ok-clause-fault c =
