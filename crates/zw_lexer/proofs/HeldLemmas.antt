@@ -40,9 +40,9 @@ number_held names n alike = by (cases_lt n (length names))
     by (inr past) =
         let one : Text = 65 ∷ [] in
         let e : [] ≡ one =
-            sym (text_of-padded names n [] past)
-            ∙ alike (padded names n []) (padded names n one) (_, refl) (_, refl)
-            ∙ text_of-padded names n one past in
+        sym (text_of-padded names n [] past)
+        ∙ alike (padded names n []) (padded names n one) (_, refl) (_, refl)
+        ∙ text_of-padded names n one past in
         cc
 
 -- ---- tokens
@@ -78,9 +78,10 @@ first_in (token ∷ tokens) = token.kind
 alike_held : (names : List Text) (tokens : List Token)
     → ((a b : List Text) → OnlyGrows names a → OnlyGrows names b → tokens_seen a tokens ≡ tokens_seen b tokens) → HoldNames names tokens
 alike_held names [] alike = tt
-alike_held names (token ∷ tokens) alike =
-    (kind_held names token.kind (λ a b g h. ap first_in (alike a b g h)),
-    alike_held names tokens (λ a b g h. ap (drop 1) (alike a b g h)))
+alike_held names (token ∷ tokens) alike = (
+  kind_held names token.kind (λ a b g h. ap first_in (alike a b g h)),
+  alike_held names tokens (λ a b g h. ap (drop 1) (alike a b g h)),
+)
 
 abbrev result_in : Result (List defined.Token) defined.Fault → List defined.Token
 result_in (Ok tokens) = tokens
