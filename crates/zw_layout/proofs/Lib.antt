@@ -1,3 +1,4 @@
 pub mod LastLemmas
 pub mod NestingLemmas
 pub mod ProgressLemmas
+pub mod DeepestLemmas

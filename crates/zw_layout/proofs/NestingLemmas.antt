@@ -1,6 +1,8 @@
 -- The beginnings of a path that is one component longer.
-use Rattle.std.proofs.Common.{◌≡◌, ℕ, zero, suc, ◌+◌, ◌<◌, List, [], ◌∷◌, ◌++◌, map, length, take, get_or, refl, ap, sym, ◌∙◌, arith}
+use Rattle.std.proofs.Common.{◌≡◌, ℕ, zero, suc, ◌+◌, ◌<◌, Bool, true, false, ◌||◌, List, [], ◌∷◌, ◌++◌, map, length, take, get_or, refl, ap, sym, ◌∙◌, arith}
 use Rattle.std.proofs.lemmas.List.{map-append, length-map, get_or-map, take_more}
+use Rattle.std.specs.List.{list_any}
+use Rattle.std.proofs.lemmas.List.Folds.{list_any_more, list_any-from_Any}
 use Rattle.zw_lemmas.proofs.ListLemmas.{read_at}
 use Rattle.zw_def.specs.Nesting.{beginnings}
 
@@ -28,3 +30,11 @@ pub take-next : {A B : Type 0} (f : A → B) (all : List A) (i : ℕ) (x : A) �
 take-next f all i x lt is =
     let at = read_at f all (map f all) refl i x lt is in
     take_more (map f all) i (f x) at.0 ∙ ap (λ y. take i (map f all) ++ y ∷ []) (sym at.1)
+
+-- ---- a test in a loop
+
+pub any_hit : {X : Type 0} (test : X → Bool) (xs : List X) (i : ℕ) (x : X) → i < length xs → x ≡ get_or xs i x → test x ≡ true → list_any test xs ≡ true
+any_hit test xs i x lt at is = list_any-from_Any test xs (i, x, lt, sym at, is)
+
+pub any_past : {X : Type 0} (test : X → Bool) (xs : List X) (i : ℕ) (x : X) → i < length xs → x ≡ get_or xs i x → test x ≡ false → list_any test (take i xs) ≡ false → list_any test (take (i + 1) xs) ≡ false
+any_past test xs i x lt at is before = list_any_more test xs i x lt ∙ (λ j. before j || (ap test (sym at) ∙ is) j)

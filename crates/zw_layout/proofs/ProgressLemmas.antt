@@ -1,16 +1,16 @@
 -- The fronts of a pattern along a path.
 use Rattle.std.proofs.Common.{◌≡◌, ℕ, zero, suc, ◌+◌, ◌-◌, ◌<◌, ◌≤◌, Bool, true, false, ◌&&◌, ◌||◌, cond, List, [], ◌∷◌, ◌++◌, map, length, take, get_or, refl, ap, sym, ◌∙◌, arith}
 use Rattle.std.specs.List.{list_any}
-use Rattle.std.proofs.lemmas.List.Folds.{list_any_more, list_any-from_Any}
-use Rattle.std.proofs.lemmas.List.{map-append, length-map, get_or-map, take_all}
+use Rattle.std.proofs.lemmas.List.Folds.{list_any-append}
+use Rattle.std.proofs.lemmas.List.{map-append, length-map, get_or-map, take_all, take_more}
 use Rattle.zw_def.specs.Text.{Text}
 use Rattle.zw_def.specs.Path.{Path}
 use Rattle.zw_def.specs.Pattern.{is_double_star, matches_part, matches}
 use Rattle.zw_def.specs.Nesting.{beginnings}
-use Rattle.zw_def.specs.Layout.{some_matches}
+use Rattle.zw_def.specs.Layout.{some_matches, some_covers}
 use Rattle.zw_layout.specs.Progress.{fronts_of, progress_of, whole_front, some_whole}
 use Rattle.zw_layout.proofs.LastLemmas.{cut_last, cut_last_none}
-use Rattle.zw_layout.proofs.NestingLemmas.{beginnings_more, length-beginnings, beginning-at}
+use Rattle.zw_layout.proofs.NestingLemmas.{beginnings_more, length-beginnings, beginning-at, any_hit}
 
 -- one symbol more
 pub fronts_more : (pattern : Path) (symbol : Text) (path : Path) → fronts_of (pattern ++ symbol ∷ []) path ≡ fronts_of pattern path ++ matches (pattern ++ symbol ∷ []) path ∷ []
@@ -55,14 +55,21 @@ next_step pattern symbol path component fronts old new shorter same longer furth
 
 -- ---- the patterns in a loop
 
-pub some_whole-hit : (progress : List (List Bool)) (i : ℕ) (fronts : List Bool) → i < length progress → fronts ≡ get_or progress i fronts → whole_front fronts ≡ true → some_whole progress ≡ true
-some_whole-hit progress i fronts lt at whole = list_any-from_Any whole_front progress (i, fronts, lt, sym at, whole)
-
-pub some_whole-past : (progress : List (List Bool)) (i : ℕ) (fronts : List Bool) → i < length progress → fronts ≡ get_or progress i fronts → whole_front fronts ≡ false → some_whole (take i progress) ≡ false → some_whole (take (i + 1) progress) ≡ false
-some_whole-past progress i fronts lt at whole before =
-    list_any_more whole_front progress i fronts lt ∙ (λ j. before j || (ap whole_front (sym at) ∙ whole) j)
-
 -- the fronts of one of the patterns
 pub progress-at : (patterns : List Path) (path : Path) (progress : List (List Bool)) (i : ℕ) (pattern : Path) (fronts : List Bool) → progress ≡ progress_of patterns path → i < length patterns → pattern ≡ get_or patterns i pattern → fronts ≡ get_or progress i fronts → fronts ≡ fronts_of pattern path
 progress-at patterns path progress i pattern fronts so lt is at =
     at ∙ ap (λ p. get_or p i fronts) so ∙ get_or-map (λ p. fronts_of p path) patterns i pattern fronts lt ∙ ap (λ p. fronts_of p path) (sym is)
+
+-- ---- the beginnings of a path in a loop
+
+pub covers_hit : (patterns : List Path) (path : Path) (i : ℕ) → i < length path → some_matches patterns (take (i + 1) path) ≡ true → some_covers patterns path ≡ true
+covers_hit patterns path i lt is =
+    any_hit (some_matches patterns) (beginnings path) i (take (i + 1) path) (omega (arith, length-beginnings path)) (sym (beginning-at path i (i + 1) (take (i + 1) path) lt (omega arith))) is
+
+pub covers_past : (patterns : List Path) (path : Path) (i : ℕ) → i < length path → some_matches patterns (take (i + 1) path) ≡ false → some_covers patterns (take i path) ≡ false → some_covers patterns (take (i + 1) path) ≡ false
+covers_past patterns path i lt is before =
+    let more = take_more path i [] lt in
+    ap (some_covers patterns) more
+    ∙ ap (list_any (some_matches patterns)) (beginnings_more (take i path) (get_or path i []))
+    ∙ list_any-append (some_matches patterns) (beginnings (take i path)) ((take i path ++ get_or path i [] ∷ []) ∷ [])
+    ∙ (λ j. before j || ((ap (some_matches patterns) (sym more) ∙ is) j || false))

@@ -4,6 +4,10 @@
 //! definition's, and that patterns are followed along a path, so that no front of it is gone through twice.
 #![tactic(auto)]
 
+mod covered;
 mod progress;
+mod roots;
 
+pub use covered::{is_collapsed, is_ignored, is_not_eager, is_visible};
 pub use progress::Progress;
+pub use roots::{belongs_to, is_root, root_at, root_of};
