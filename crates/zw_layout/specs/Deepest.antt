@@ -1,5 +1,5 @@
 -- The deepest root of the code's.
-use Rattle.std.specs.Prelude.{Bool, true, ◌&&◌, List, length, nat_lt, if◌then◌else◌, Option, Some, None, map, option_map}
+use Rattle.std.specs.Prelude.{true, ◌&&◌, List, length, nat_lt, if◌then◌else◌, Option, Some, None, option_map}
 use Rattle.std.specs.Borrow.{Bor}
 use Rattle.std.specs.List.{fold}
 use Rattle.std.specs.Option.{option_map_or}

@@ -13,7 +13,11 @@ use zw_inflect::Layout;
 use zw_path::{Path, Pattern};
 
 /// Whether one of the patterns stands for the path of these components, or for a directory above it.
-fn some_covers(alloc: Global, patterns: &[Pattern], components: &[String]) -> Result<bool, AllocError>
+fn some_covers(
+    alloc: Global,
+    patterns: &[Pattern],
+    components: &[String],
+) -> Result<bool, AllocError>
     ensures { IfOk result (λ covers. covers ≡ defined.some_covers patterns.now (map string_bytes components.now)) }
 {
     let mut progress = Progress::new(alloc, patterns)?;

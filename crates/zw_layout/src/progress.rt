@@ -1,6 +1,6 @@
 //! How far patterns have come along a path: which fronts of each stand for the components so far. A step takes one
 //! component, so a path is gone through once, and a walk down a tree takes a step for each name.
-ghost use Rattle.std.specs.Prelude.{◌≡◌, ◌<◌, ◌+◌, ◌&&◌, ◌||◌, [], IfOk, if◌then◌else◌, length, map, string_bytes, take};
+ghost use Rattle.std.specs.Prelude.{◌≡◌, ◌<◌, ◌≤◌, ◌+◌, ◌&&◌, ◌||◌, [], IfOk, if◌then◌else◌, length, map, string_bytes, take};
 ghost use Rattle.zw_def.specs.Pattern.{is_double_star, matches_part};
 ghost use Rattle.zw_layout.specs.Progress.{fronts_of, progress_of, some_whole, whole_front};
 
@@ -109,6 +109,24 @@ impl Progress {
             first.push(first_fronts(alloc, pattern.components())?)?;
         }
         Ok(Progress { patterns: first })
+    }
+
+    /// The patterns after so many components.
+    pub fn along(
+        alloc: Global,
+        patterns: &[Pattern],
+        components: &[String],
+        depth: usize,
+    ) -> Result<Progress, AllocError>
+        requires { depth ≤ length components.now }
+        ensures { IfOk result (λ progress.
+            progress ≡ progress_of patterns.now (take depth (map string_bytes components.now))) }
+    {
+        let mut progress = Progress::new(alloc, patterns)?;
+        for place in 0..depth {
+            progress = progress.after(alloc, patterns, components, place)?;
+        }
+        Ok(progress)
     }
 
     /// The patterns one component further on, after so many.

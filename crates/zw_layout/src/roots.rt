@@ -44,6 +44,7 @@ pub fn root_at<'a>(layout: &'a Layout, components: &[String]) -> Option<&'a Root
     ensures root { (names : List Text) → option_map (root_seen names) (held result)
         ≡ defined.root_of (layout_seen names layout.now) (map string_bytes components.now) }
     ensures among { IfSome (held result) (Contains layout.now.roots.items) }
+    ensures below { IfSome (held result) (λ root. is_below (map string_bytes components.now) root.path ≡ true) }
 {
     let mut best: Option<&Root> = None;
     for root in &layout.roots {
@@ -57,6 +58,7 @@ pub fn root_of<'a>(layout: &'a Layout, path: &Path) -> Option<&'a Root>
     ensures root { (names : List Text) →
         option_map (root_seen names) (held result) ≡ defined.root_of (layout_seen names layout.now) path.now }
     ensures among { IfSome (held result) (Contains layout.now.roots.items) }
+    ensures below { IfSome (held result) (λ root. is_below path.now root.path ≡ true) }
 {
     root_at(layout, path.components())
 }

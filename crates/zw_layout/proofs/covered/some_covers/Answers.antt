@@ -1,4 +1,4 @@
-use Rattle.std.proofs.Common.{◌≡◌, ◌+◌, sym, ◌∙◌, ap, map, take, string_bytes, length, arith}
+use Rattle.std.proofs.Common.{◌+◌, sym, ◌∙◌, ap, map, take, string_bytes, arith}
 use Rattle.std.proofs.lemmas.List.{length-map}
 use Rattle.zw_layout.specs.Progress.{some_whole}
 use Rattle.zw_layout.proofs.ProgressLemmas.{some_whole-is, covers_hit, covers_past}

@@ -1,4 +1,4 @@
-use Rattle.std.proofs.Common.{◌≡◌, map, take, string_bytes, ap, ◌∙◌, ◌&&◌}
+use Rattle.std.proofs.Common.{map, take, string_bytes, ap, ◌∙◌, ◌&&◌}
 use Rattle.zw_def.specs.Pattern.{is_double_star}
 use Rattle.zw_layout.proofs.NestingLemmas.{take-next}
 use Rattle.zw_layout.proofs.ProgressLemmas.{none_step}

@@ -1,4 +1,4 @@
-use Rattle.std.proofs.Common.{◌≡◌, ◌+◌, ◌<◌, ◌&&◌, ◌||◌, cond, false, List, Bool, length, map, take, get_or, string_bytes, ap, sym, ◌∙◌, arith}
+use Rattle.std.proofs.Common.{◌≡◌, ◌+◌, ◌&&◌, ◌||◌, cond, false, length, map, take, get_or, string_bytes, ap, ◌∙◌, arith}
 use Rattle.std.proofs.lemmas.List.{length-map}
 use Rattle.zw_def.specs.Pattern.{is_double_star, matches_part}
 use Rattle.zw_layout.specs.Progress.{fronts_of}

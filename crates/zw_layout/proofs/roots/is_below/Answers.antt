@@ -1,4 +1,4 @@
-use Rattle.std.proofs.Common.{length, refl, string_bytes, ◌∙◌, sym, arith}
+use Rattle.std.proofs.Common.{length, refl, string_bytes, ◌∙◌, sym}
 use Rattle.std.proofs.lemmas.Bool.{le-ltb}
 use Rattle.zw_def.proofs.PathLemmas.{below-longer, below-shorter}
 use Rattle.zw_layout.proofs.roots.is_below.Goals as goal

@@ -1,4 +1,4 @@
-use Rattle.std.proofs.Common.{◌≡◌, ◌≤◌, Bool, sym, ◌∙◌, ap, length, arith}
+use Rattle.std.proofs.Common.{◌≤◌, Bool, sym, ◌∙◌, ap, length, arith}
 use Rattle.std.specs.List.{list_any}
 use Rattle.std.proofs.lemmas.List.{take_all}
 use Rattle.zw_lemmas.proofs.AnyLemmas.{list_any-map}

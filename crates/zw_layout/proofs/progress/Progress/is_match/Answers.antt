@@ -1,4 +1,4 @@
-use Rattle.std.proofs.Common.{◌≡◌, ap, sym, ◌∙◌}
+use Rattle.std.proofs.Common.{ap, sym, ◌∙◌}
 use Rattle.zw_lemmas.proofs.ListLemmas.{read_at}
 use Rattle.zw_layout.specs.Progress.{whole_front}
 use Rattle.zw_layout.proofs.NestingLemmas.{any_hit, any_past}
