@@ -1,5 +1,5 @@
 -- Expected paths, component by component.
-use Rattle.std.proofs.Common.{◌≡◌, ℕ, zero, suc, ◌+◌, ◌<◌, ◌≤◌, true, false, cond, List, [], ◌∷◌, ◌++◌, length, take, drop, get_or, Option, Some, option_map, Result, Ok, Err, refl, ap, sym, subst, ◌∙◌, arith, length-take-le}
+use Rattle.std.proofs.Common.{◌≡◌, ℕ, zero, suc, ◌+◌, ◌<◌, ◌≤◌, true, false, cond, List, [], ◌∷◌, ◌++◌, length, take, drop, get_or, Option, Some, None, option_map, Result, Ok, Err, IfSome, refl, ap, sym, subst, ◌∙◌, arith, length-take-le}
 use Rattle.std.specs.List.{last_or, Contains}
 use Rattle.std.proofs.lemmas.List.Elements.{All-contains}
 use Rattle.std.specs.Option.{unwrap_or}
@@ -17,11 +17,13 @@ use Rattle.zw_def.specs.Layout as defined
 use Rattle.zw_def.specs.Names.{AreNamed, OnlyGrows, texts_of}
 use Rattle.zw_def.specs.Nesting.{parent_of}
 use Rattle.zw_def.specs.Expected.{Expected, named, named_by, named_directory, then_named, namespace_from, namespace_of, last_part, expected_of_file, expected_path, directory_path}
-use Rattle.zw_def.proofs.NameLemmas.{OnlyGrows-same, texts_of-grown}
+use Rattle.zw_def.proofs.NameLemmas.{OnlyGrows-same, AreNamed-grown, texts_of-grown}
 use Rattle.zw_inflect.specs.declared.layout.Layout.{Layout}
 use Rattle.zw_inflect.specs.declared.layout.Root.{Root}
 use Rattle.zw_inflect.specs.Layout.{layout_seen, root_seen}
 use Rattle.zw_layout.specs.declared.expected.WrongName.{WrongName}
+use Rattle.zw_layout.specs.Deepest.{deepest}
+use Rattle.zw_layout.proofs.DeepestLemmas.{deepest_seen, deepest_among}
 use Rattle.zw_layout.specs.Expects.{Tells, ExpectsAny, AreNamespacesNamed, IsWrongAt}
 
 -- ---- one name
@@ -120,3 +122,32 @@ any_fault names r Memory told any is some at = subst (λ x. ExpectsAny names x a
 
 pub root_named : (names : List Text) (layout : Layout) (root : Root) → AreNamespacesNamed names layout → Contains layout.roots.items root → AreNamed names root.namespace
 root_named names layout root named_all among = All-contains (λ r. AreNamed names r.namespace) layout.roots.items root named_all among
+
+-- ---- names that are made later
+
+-- what a file or a directory below a root is expected to define, whatever names are there
+of_root : {X : Type 0} (old new : List Text) (layout : Layout) (path : Path) (f : defined.Layout → defined.Root → X) → ((root : Root) → AreNamed old root.namespace → f (layout_seen new layout) (root_seen new root) ≡ f (layout_seen old layout) (root_seen old root)) → AreNamespacesNamed old layout
+    → option_map (f (layout_seen new layout)) (defined.root_of (layout_seen new layout) path) ≡ option_map (f (layout_seen old layout)) (defined.root_of (layout_seen old layout) path)
+of_root old new layout path f same named_all =
+    ap (option_map (f (layout_seen new layout))) (sym (deepest_seen new path layout.roots.items))
+    ∙ by (deepest path layout.roots.items) (deepest_among path layout.roots.items)
+    ∙ ap (option_map (f (layout_seen old layout))) (deepest_seen old path layout.roots.items)
+  where
+    by : (o : Option Root) → IfSome o (Contains layout.roots.items) → option_map (f (layout_seen new layout)) (option_map (root_seen new) o) ≡ option_map (f (layout_seen old layout)) (option_map (root_seen old) o)
+    by None among = refl
+    by (Some root) among = ap Some (same root (root_named old layout root named_all among))
+
+namespace_later : (old new : List Text) (layout : Layout) (root : Root) (directory : Path) → OnlyGrows old new → AreNamed old root.namespace → namespace_of (layout_seen new layout) (root_seen new root) directory ≡ namespace_of (layout_seen old layout) (root_seen old root) directory
+namespace_later old new layout root directory grows named_before =
+    namespace_whole old new layout root directory grows named_before ∙ sym (namespace_whole old old layout root directory (OnlyGrows-same old) named_before)
+
+pub file_later : (old new : List Text) (layout : Layout) (path : Path) → OnlyGrows old new → AreNamespacesNamed old layout → expected_path (layout_seen new layout) path ≡ expected_path (layout_seen old layout) path
+file_later old new layout path grows named_all =
+    of_root old new layout path (λ l root. expected_of_file l root path) (λ root n. ap (then_named (named (layout_seen old layout) (base_of path) path)) (namespace_later old new layout root (parent_of path) grows n)) named_all
+
+pub directory_later : (old new : List Text) (layout : Layout) (path : Path) → OnlyGrows old new → AreNamespacesNamed old layout → directory_path (layout_seen new layout) path ≡ directory_path (layout_seen old layout) path
+directory_later old new layout path grows named_all =
+    of_root old new layout path (λ l root. namespace_of l root path) (λ root n. namespace_later old new layout root path grows n) named_all
+
+pub namespaces_grown : (old new : List Text) (layout : Layout) → OnlyGrows old new → AreNamespacesNamed old layout → AreNamespacesNamed new layout
+namespaces_grown old new layout grows named_all k root lt = AreNamed-grown old new _ grows (named_all k root lt)

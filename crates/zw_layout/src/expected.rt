@@ -1,5 +1,6 @@
 //! The constant paths that files and directories are expected to define (Zeitwerk README, "File structure").
-ghost use Rattle.std.specs.Prelude.{◌≡◌, ◌<◌, ◌≤◌, ◌+◌, IfOk, IfSome, OnOk, length, take, string_bytes};
+ghost use Rattle.std.specs.Prelude.{◌≡◌, List, ◌<◌, ◌≤◌, ◌+◌, IfOk, IfSome, OnOk, length, take, string_bytes};
+ghost use Rattle.zw_def.specs.Text.{Text};
 ghost use Rattle.zw_def.specs.Names.{AreNamed, OnlyGrows, texts_of};
 ghost use Rattle.zw_def.specs.Expected as defined;
 ghost use Rattle.zw_inflect.specs.Layout.{root_seen, layout_seen};
@@ -132,7 +133,8 @@ pub fn expected_path(
     path: &Path,
 ) -> Result<Option<CPath>, ExpectFault>
     requires { AreNamespacesNamed names.old layout.now }
-    ensures told { ExpectsAny names.new result (defined.expected_path (layout_seen names.new layout.now) path.now) }
+    ensures told { (later : List Text) → OnlyGrows names.new later →
+        ExpectsAny later result (defined.expected_path (layout_seen later layout.now) path.now) }
     ensures named { IfOk result (λ p. IfSome p (AreNamed names.new)) }
     ensures grows { OnlyGrows names.old names.new }
 {
@@ -154,7 +156,8 @@ pub fn directory_path(
     directory: &Path,
 ) -> Result<Option<CPath>, ExpectFault>
     requires { AreNamespacesNamed names.old layout.now }
-    ensures told { ExpectsAny names.new result (defined.directory_path (layout_seen names.new layout.now) directory.now) }
+    ensures told { (later : List Text) → OnlyGrows names.new later →
+        ExpectsAny later result (defined.directory_path (layout_seen later layout.now) directory.now) }
     ensures named { IfOk result (λ p. IfSome p (AreNamed names.new)) }
     ensures grows { OnlyGrows names.old names.new }
 {

@@ -1,6 +1,11 @@
-use Rattle.std.proofs.Common.{length, string_bytes, ap, arith}
-use Rattle.std.proofs.lemmas.List.{length-map}
+use Rattle.std.proofs.Common.{Some, Ok, length, take, string_bytes, ap, sym, subst, ◌∙◌, arith}
+use Rattle.std.proofs.lemmas.List.{length-map, take_all}
+use Rattle.zw_def.specs.Expected.{namespace_of}
+use Rattle.zw_def.proofs.NameLemmas.{texts_of-grown}
+use Rattle.zw_inflect.specs.Layout.{layout_seen, root_seen}
+use Rattle.zw_layout.specs.Expects.{Tells}
 use Rattle.zw_layout.proofs.DeepestLemmas.{below_front}
+use Rattle.zw_layout.proofs.ExpectedLemmas.{directory_below, directory_later, namespaces_grown, any_fault, err_is}
 use Rattle.zw_layout.proofs.expected.directory_path.Goals as goal
 
 pub namespace_at-requires-clause-root : goal.namespace_at-requires-clause-root
@@ -9,3 +14,28 @@ namespace_at-requires-clause-root c = (below_front c.args.directory.now c.in-Som
 pub namespace_at-requires-clause-begins : goal.namespace_at-requires-clause-begins
 namespace_at-requires-clause-begins c =
     omega (arith, (below_front c.args.directory.now c.in-Some.root.now.path c.in-Some.ensures.below).0, ap length c.components-end.ensures.value, length-map c.components-end.result.now (λ s. string_bytes s))
+
+pub returns-in_err-namespace_at-clause-told : goal.returns-in_err-namespace_at-clause-told
+returns-in_err-namespace_at-clause-told c later grows =
+    let path = c.args.directory.now in
+    let names = c.namespace_at.new.names in
+    let layout = layout_seen names c.args.layout.now in
+    let all = take_all (length c.components-end.result.now) path (omega (arith, ap length c.components-end.ensures.value, length-map c.components-end.result.now (λ s. string_bytes s))) in
+    let known = namespaces_grown c.args.names.now names c.args.layout.now c.in_err-namespace_at.ensures.grows c.requires in
+    let below = directory_below layout (root_seen names c.in-Some.root.now) path (c.in-Some.ensures.root names) in
+    let fault = c.in_err-namespace_at.field-0.0 in
+    let told : Tells fault (namespace_of layout (root_seen names c.in-Some.root.now) (take (length c.components-end.result.now) path)) = c.in_err-namespace_at.ensures.told in
+    let is = err_is c.from_residual.result fault c.from_residual.ensures.1 in
+    any_fault later c.from_residual.result fault _ _ is (directory_later names later c.args.layout.now path grows known ∙ below) (subst (λ d. Tells fault (namespace_of layout (root_seen names c.in-Some.root.now) d)) all told)
+
+pub returns-clause-told : goal.returns-clause-told
+returns-clause-told c later grows =
+    let path = c.args.directory.now in
+    let names = c.namespace_at.new.names in
+    let layout = layout_seen names c.args.layout.now in
+    let all = take_all (length c.components-end.result.now) path (omega (arith, ap length c.components-end.ensures.value, length-map c.components-end.result.now (λ s. string_bytes s))) in
+    let known = namespaces_grown c.args.names.now names c.args.layout.now c.in_ok-namespace_at.ensures.grows c.requires in
+    let same = texts_of-grown names later c.in_ok-namespace_at.field-0 grows c.in_ok-namespace_at.ensures.named in
+    directory_later names later c.args.layout.now path grows known
+    ∙ directory_below layout (root_seen names c.in-Some.root.now) path (c.in-Some.ensures.root names)
+    ∙ ap Some (ap (namespace_of layout (root_seen names c.in-Some.root.now)) (sym all) ∙ c.in_ok-namespace_at.ensures.told ∙ ap Ok (sym same))
