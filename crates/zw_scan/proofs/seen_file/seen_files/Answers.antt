@@ -1,0 +1,21 @@
+use Rattle.std.proofs.Common.{◌++◌, [], map, ap, sym, ◌∙◌}
+use Rattle.std.specs.List.{cons_option}
+use Rattle.zw_def.proofs.NameLemmas.{OnlyGrows-trans}
+use Rattle.zw_inflect.specs.Layout.{layout_seen}
+use Rattle.zw_scan.specs.FileTold.{file_told}
+use Rattle.zw_scan.specs.FileSeen.{file_seen}
+use Rattle.zw_scan.proofs.FileToldLemmas.{filter_map_more, map_some}
+use Rattle.zw_scan.proofs.seen_file.seen_files.Goals as goal
+
+pub loop-path-preserved : goal.loop-path-preserved
+loop-path-preserved c =
+    let inv = c.loop-path.invariant in
+    let grows = c.in_ok-file.ensures.grows in (
+      (λ later more.
+          let layout = layout_seen later c.args.layout.now in
+          ap (map (file_seen later)) c.in_ok-push_some.ensures
+          ∙ map_some (file_seen later) c.loop-path.files.items c.in_ok-file.file
+          ∙ (λ i. inv.0 later (OnlyGrows-trans _ _ _ grows more) i ++ cons_option (c.in_ok-file.ensures.told later more i) [])
+          ∙ sym (filter_map_more (file_told layout) c.args.paths.now c.loop-path.path-index c.path-item.result c.loop-path-test.true c.path-item.is)),
+      OnlyGrows-trans _ _ _ inv.1 grows,
+    )

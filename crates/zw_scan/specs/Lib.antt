@@ -1,0 +1,2 @@
+pub mod FileTold
+pub mod FileSeen
