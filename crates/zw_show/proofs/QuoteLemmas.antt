@@ -1,8 +1,8 @@
 -- Texts in quotes, character by character.
-use Rattle.std.proofs.Common.{◌≡◌, Bool, true, false, ℕ, ◌+◌, ◌/◌, ◌<◌, ◌≤◌, ◌⊎◌, inl, inr, List, [], ◌∷◌, ◌++◌, length, cond, nat_lt, refl, ap, sym, ◌∙◌, subst, arith, append_assoc, Result, Ok, Err, string_bytes}
+use Rattle.std.proofs.Common.{◌≡◌, Bool, true, false, ℕ, ◌<◌, ◌≤◌, ◌⊎◌, inl, inr, List, [], ◌∷◌, ◌++◌, length, cond, nat_lt, refl, ap, sym, ◌∙◌, subst, arith, append_assoc, Result, Ok, Err, string_bytes}
 use Rattle.std.specs.Char.{encode_utf8}
 use Rattle.std.specs.Result.{IsErrAnd}
-use Rattle.std.proofs.Math.Utf8.{encode, next}
+use Rattle.std.proofs.Math.Utf8.{encode}
 use Rattle.std.proofs.lemmas.Bool.{cases_lt}
 use Rattle.std.proofs.lemmas.List.{length-append}
 use Rattle.std.proofs.lemmas.Str.{encode_ascii}

@@ -1,5 +1,5 @@
 -- What a call that writes leaves.
-use Rattle.std.specs.Prelude.{◌≡◌, ℕ, ◌<◌, nat_lt, List, ◌++◌, length, Result, Ok, Err, string_bytes, if◌then◌else◌}
+use Rattle.std.specs.Prelude.{◌≡◌, ℕ, ◌<◌, nat_lt, ◌++◌, length, Result, Ok, Err, string_bytes, if◌then◌else◌}
 use Rattle.std.specs.Char.{encode_utf8}
 use Rattle.zw_base.specs.declared.fault.Fault.{Fault}
 use Rattle.zw_base.specs.declared.fault.Fault.TheVariants.{Refused, Memory}

@@ -2,12 +2,13 @@
 ghost use Rattle.std.specs.Prelude.{◌≡◌, ◌<◌, ◌≤◌, ◌++◌, codes, length, IfOk, string_bytes};
 ghost use Rattle.zw_base.specs.Fault.{IfRefused};
 ghost use Rattle.zw_def_world.specs.Making.{max_text};
-ghost use Rattle.zw_def_world.specs.Quote.{quoted, escaped_text};
+ghost use Rattle.zw_def_world.specs.Quote.{quoted, escaped_text, symbol_text};
 ghost use Rattle.zw_show.specs.Writes.{Writes};
 
 use crate::fault::ShowFault;
 use crate::piece::push;
 use crate::quote::{push_escaped_text, push_quoted};
+use crate::symbol::push_symbol;
 use crate::writer::Writer;
 use std::alloc::{AllocError, Global};
 
@@ -27,6 +28,22 @@ pub fn quoted(alloc: Global, text: &str) -> Result<String, ShowFault>
         text: String::new(alloc),
     };
     push_quoted(&mut writer, text)?;
+    Ok(writer.text)
+}
+
+/// The inspect text of a symbol (ISO/IEC 30170, 15.3.1.3.17): `:` and its name, bare where these are one symbol token
+/// and nothing else, and otherwise in double quotes.
+pub fn symbol_text(alloc: Global, name: &str) -> Result<String, ShowFault>
+    ensures told { IfOk result (λ made. string_bytes made ≡ symbol_text name.now) }
+    ensures fits { IfOk result (λ made. length (string_bytes made) ≤ max_text) }
+    ensures refused { IfRefused result (λ refusal. max_text < length (symbol_text name.now)) }
+{
+    let mut writer = Writer {
+        alloc,
+        most: MAX_TEXT,
+        text: String::new(alloc),
+    };
+    push_symbol(&mut writer, name)?;
     Ok(writer.text)
 }
 

@@ -1,4 +1,4 @@
-use Rattle.std.proofs.Common.{◌≡◌, ◌∙◌, ap, sym, string_bytes}
+use Rattle.std.proofs.Common.{◌∙◌}
 use Rattle.zw_def_world.specs.Quote.{escaped_text}
 use Rattle.zw_show.specs.Writes.{escaped_char}
 use Rattle.zw_show.proofs.QuoteLemmas.{escaped_text-char, one_more, stops, err_is}

@@ -1,5 +1,5 @@
-use Rattle.std.proofs.Common.{◌≡◌, ◌∙◌, ◌++◌, Err, ap, sym, subst, string_bytes}
-use Rattle.zw_def_world.specs.Quote.{quoted, quoted_rest}
+use Rattle.std.proofs.Common.{◌∙◌, ◌++◌, Err, ap, subst, string_bytes}
+use Rattle.zw_def_world.specs.Quote.{quoted_rest}
 use Rattle.zw_show.specs.Writes.{Writes, quoted_char}
 use Rattle.zw_show.proofs.QuoteLemmas.{quoted_rest-char, one_more, stops, err_is}
 use Rattle.zw_show.proofs.quote.push_quoted.Goals as goal
