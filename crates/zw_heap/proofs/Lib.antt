@@ -2,10 +2,14 @@ pub mod ListLemmas
 pub mod PlaceLemmas
 pub mod ReachLemmas
 pub mod FoundedLemmas
+pub mod SuperclassLemmas
 pub mod SoundLemmas
 pub mod ChangeLemmas
 pub mod WriteLemmas
+pub mod ReadLemmas
 pub mod BootLemmas
 pub mod CoreLemmas
 pub mod NewLemmas
 pub mod AddsLemmas
+pub mod CoreTellingLemmas
+pub mod ExceptionLemmas

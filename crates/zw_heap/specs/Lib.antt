@@ -6,6 +6,7 @@ pub mod Heap
 pub mod Refusal
 pub mod Reach
 pub mod Founded
+pub mod Superclass
 pub mod Sound
 pub mod HeapSeen
 pub mod New

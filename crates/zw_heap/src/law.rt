@@ -1,8 +1,14 @@
 //! Laws of heaps, for proofs above. The calls do nothing.
-ghost use Rattle.std.specs.Prelude.{◌<◌, ◌^◌, length};
+ghost use Rattle.std.specs.Prelude.{◌≡◌, ℕ, ◌<◌, ◌^◌, List, Some, length};
+ghost use Rattle.zw_def.specs.Text.{Text};
+ghost use Rattle.zw_def_world.specs.Ancestor.{makes_exceptions};
+ghost use Rattle.zw_def_world.specs.CoreClass.{Exception, core_count, main_id};
+ghost use Rattle.zw_def_world.specs.Id.{boot_id};
+ghost use Rattle.zw_def_world.specs.World.{World};
 ghost use Rattle.zw_heap.specs.Change.{Change, changed};
 ghost use Rattle.zw_heap.specs.Sound.{IsSound};
-ghost use Rattle.zw_heap.specs.Telling.{OnlyAdds};
+ghost use Rattle.zw_heap.specs.Superclass.{descends};
+ghost use Rattle.zw_heap.specs.Telling.{Telling, Fits, OnlyAdds, Agrees};
 
 use crate::heap::Heap;
 
@@ -20,5 +26,23 @@ impl Heap {
         ensures { (change : Change) → OnlyAdds self.now (changed change self.now) }
     {
         let _ = &self.alloc;
+    }
+
+    /// Each telling tells the core classes and modules and `main` by the names that they have in every world.
+    pub fn tells_core(&self)
+        ensures modules { (I : Telling) (names : List Text) (n : ℕ) → Fits I names self.now → n < core_count
+            → I.module_id n ≡ boot_id n }
+        ensures main { (I : Telling) (names : List Text) → Fits I names self.now → I.object_id 0 ≡ main_id }
+    {
+        let _ = &self.alloc;
+    }
+
+    /// In each world that agrees with a heap, a class makes exceptions exactly where it is `Exception` or below it.
+    pub fn tells_exceptions(&self)
+        ensures { (I : Telling) (names : List Text) (w : World) (class : ℕ) → Fits I names self.now
+            → Agrees I self.now w → class < length self.now.modules
+            → makes_exceptions w (I.module_id class) ≡ Some (descends self.now.modules Exception.count class) }
+    {
+        self.is_sound();
     }
 }

@@ -5,7 +5,7 @@ ghost use Rattle.std.specs.Map.{lookup};
 ghost use Rattle.std.specs.Option.{option_map};
 ghost use Rattle.zw_heap.specs.CoreClass.{core_seen};
 ghost use Rattle.zw_heap.specs.Heap.{class_in, is_frozen_in, variables_in, sizes_of};
-ghost use Rattle.zw_heap.specs.Sound.{IsIn};
+ghost use Rattle.zw_heap.specs.Sound.{IsIn, IsBelow};
 ghost use Rattle.zw_heap.specs.declared.value.Value.TheVariants.{Module as ModuleValue, Object as ObjectValue};
 
 use crate::core_class::CoreClass;
@@ -65,7 +65,8 @@ impl Heap {
     /// The path of a class or module.
     pub fn path(&self, of: ModuleId) -> &CPath
         requires { IsIn (sizes_of self.now) (ModuleValue of) }
-        ensures { option_map (λ m. m.path) (slice_get self.now.modules of.0) ≡ Some result.now }
+        ensures path { option_map (λ m. m.path) (slice_get self.now.modules of.0) ≡ Some result.now }
+        ensures named { All (λ n. n < self.now.names) result.now }
     {
         self.modules[of.0].path()
     }
@@ -102,11 +103,12 @@ impl Heap {
         self.texts[of.0].as_str()
     }
 
-    /// The items of an array.
+    /// The items of an array. Those that are arrays were made before it.
     pub fn items(&self, of: ArrayRef) -> &[Value]
         requires { of.0 < length self.now.arrays }
         ensures items { option_map (λ r. r.items) (slice_get self.now.arrays of.0) ≡ Some result.now }
         ensures held { All (IsIn (sizes_of self.now)) result.now }
+        ensures earlier { All (IsBelow of.0) result.now }
     {
         self.arrays[of.0].items()
     }

@@ -1,5 +1,6 @@
 //! Changes of one record. A frozen record does not change.
-ghost use Rattle.std.specs.Prelude.{◌≡◌, ◌<◌, false, OnOk, OnErr};
+ghost use Rattle.std.specs.Prelude.{◌≡◌, ◌<◌, true, false, OnOk, OnErr, IfErr};
+ghost use Rattle.zw_base.specs.declared.fault.Fault.TheVariants.{Refused};
 ghost use Rattle.zw_heap.specs.Founded.{is_class_at};
 ghost use Rattle.zw_heap.specs.Heap.{at_module, at_object, with_ivar, with_frozen, is_frozen_in, sizes_of};
 ghost use Rattle.zw_heap.specs.ModuleRecord.{with_include, with_extension, with_class_variable};
@@ -7,12 +8,24 @@ ghost use Rattle.zw_heap.specs.ObjectRecord.{with_message};
 ghost use Rattle.zw_heap.specs.Reach.{Reaches};
 ghost use Rattle.zw_heap.specs.Refusal.{AnswersFrozen};
 ghost use Rattle.zw_heap.specs.Sound.{IsIn, Stays};
+ghost use Rattle.zw_heap.specs.declared.fault.HeapRefusal.TheVariants.{Frozen};
 ghost use Rattle.zw_heap.specs.declared.value.Value.TheVariants.{Module as ModuleValue, Object as ObjectValue};
 
 use crate::fault::{HeapFault, HeapRefusal};
 use crate::heap::Heap;
 use crate::value::{ModuleId, ObjRef, Value};
 use zw_names::Name;
+
+/// Refuses to change a record that is frozen.
+fn unless_frozen(is_frozen: bool) -> Result<(), HeapFault>
+    ensures free { OnOk result (is_frozen ≡ false) }
+    ensures frozen { IfErr result (λ fault. (is_frozen ≡ true) × (fault ≡ Refused Frozen)) }
+{
+    if is_frozen {
+        return Err(HeapFault::Refused(HeapRefusal::Frozen));
+    }
+    Ok(())
+}
 
 impl Heap {
     fn set_object_ivar(&mut self, of: ObjRef, name: Name, to: Value) -> Result<(), HeapFault>
@@ -25,9 +38,7 @@ impl Heap {
         ensures stays { Stays self.old self.new }
     {
         let record = &mut self.objects[of.0];
-        if record.is_frozen() {
-            return Err(HeapFault::Refused(HeapRefusal::Frozen));
-        }
+        unless_frozen(record.is_frozen())?;
         record.set_variable(name, to)?;
         Ok(())
     }
@@ -42,9 +53,7 @@ impl Heap {
         ensures stays { Stays self.old self.new }
     {
         let record = &mut self.modules[of.0];
-        if record.is_frozen() {
-            return Err(HeapFault::Refused(HeapRefusal::Frozen));
-        }
+        unless_frozen(record.is_frozen())?;
         record.set_variable(name, to)?;
         Ok(())
     }
@@ -77,9 +86,7 @@ impl Heap {
         ensures stays { Stays self.old self.new }
     {
         let record = &mut self.modules[of.0];
-        if record.is_frozen() {
-            return Err(HeapFault::Refused(HeapRefusal::Frozen));
-        }
+        unless_frozen(record.is_frozen())?;
         record.set_class_variable(name, to)?;
         Ok(())
     }
@@ -96,9 +103,7 @@ impl Heap {
         ensures stays { Stays self.old self.new }
     {
         let record = &mut self.modules[to.0];
-        if record.is_frozen() {
-            return Err(HeapFault::Refused(HeapRefusal::Frozen));
-        }
+        unless_frozen(record.is_frozen())?;
         record.add_include(added)?;
         Ok(())
     }
@@ -113,9 +118,7 @@ impl Heap {
         ensures stays { Stays self.old self.new }
     {
         let record = &mut self.modules[to.0];
-        if record.is_frozen() {
-            return Err(HeapFault::Refused(HeapRefusal::Frozen));
-        }
+        unless_frozen(record.is_frozen())?;
         record.add_extension(added)?;
         Ok(())
     }
@@ -129,9 +132,7 @@ impl Heap {
         ensures stays { Stays self.old self.new }
     {
         let record = &mut self.objects[of.0];
-        if record.is_frozen() {
-            return Err(HeapFault::Refused(HeapRefusal::Frozen));
-        }
+        unless_frozen(record.is_frozen())?;
         record.set_message(self.alloc, text)?;
         Ok(())
     }

@@ -10,7 +10,7 @@ invariant_of-self-2 c =
     let h = heap_seen c.self.inside in
     let back = sym c.self.view_is in
     IsSound-at_module (heap_seen c.self.inside) c.args.self.now c.self.invariant c.self.view_is c.args.to c.requires.to c.index_mut-record.result.now c.index_mut-record.ensures.value
-    (with_include c.args.added) c.add_include.new.self c.in_ok-add_include.ensures.ok c.is_frozen.result c.is_frozen.ensures c.if-is_frozen.false refl
+    (with_include c.args.added) c.add_include.new.self c.in_ok-add_include.ensures.ok c.is_frozen.result c.is_frozen.ensures c.in_ok-unless_frozen.ensures.free refl
     (ModuleIn-with_include (sizes_of h) c.index_mut-record.result.now (module_in (heap_seen c.self.inside) c.args.self.now c.self.invariant c.self.view_is c.args.to c.requires.to c.index_mut-record.result.now c.index_mut-record.ensures.value) c.args.added (subst (λ (k : Held). c.args.added.0 < (sizes_of k).modules) back c.requires.added))
     (more_ways (heap_seen c.self.inside) c.args.self.now c.self.invariant c.self.view_is c.args.to c.requires.to c.index_mut-record.result.now c.index_mut-record.ensures.value c.args.added c.requires.apart)
     (more_order (heap_seen c.self.inside) c.args.self.now c.self.invariant c.self.view_is c.args.to c.requires.to c.index_mut-record.result.now c.index_mut-record.ensures.value c.args.added c.requires.plain)
@@ -23,4 +23,4 @@ returns-clause-set c =
 pub returns-clause-frozen : goal.returns-clause-frozen
 returns-clause-frozen c =
     frozen_module_told (heap_seen c.self.inside) c.args.self.now c.self.invariant c.self.view_is c.args.to c.requires.to c.index_mut-record.result.now c.index_mut-record.ensures.value
-    c.is_frozen.result c.is_frozen.ensures ∙ ap Some c.if-is_frozen.false
+    c.is_frozen.result c.is_frozen.ensures ∙ ap Some c.in_ok-unless_frozen.ensures.free

@@ -11,7 +11,7 @@ invariant_of-self-2 c =
     let h = heap_seen c.self.inside in
     let back = sym c.self.view_is in
     IsSound-at_object (heap_seen c.self.inside) c.args.self.now c.self.invariant c.self.view_is c.args.of.0 c.requires.of c.index_mut-record.result.now c.index_mut-record.ensures.value
-    (with_object_variable c.args.name.0 c.args.to) c.set_variable.new.self c.in_ok-set_variable.ensures.ok c.is_frozen.result c.is_frozen.ensures c.if-is_frozen.false refl
+    (with_object_variable c.args.name.0 c.args.to) c.set_variable.new.self c.in_ok-set_variable.ensures.ok c.is_frozen.result c.is_frozen.ensures c.in_ok-unless_frozen.ensures.free refl
     (ObjectIn-with_variable (sizes_of h) c.index_mut-record.result.now (object_in (heap_seen c.self.inside) c.args.self.now c.self.invariant c.self.view_is c.args.of.0 c.requires.of c.index_mut-record.result.now c.index_mut-record.ensures.value) c.args.name.0 c.args.to (subst (λ (k : Held). c.args.name.0 < k.names) back c.requires.name) (subst (λ (k : Held). IsIn (sizes_of k) c.args.to) back c.requires.to))
 
 pub returns-clause-set : goal.returns-clause-set
@@ -22,4 +22,4 @@ returns-clause-set c =
 pub returns-clause-frozen : goal.returns-clause-frozen
 returns-clause-frozen c =
     frozen_object_told (heap_seen c.self.inside) c.args.self.now c.self.invariant c.self.view_is c.args.of.0 c.requires.of c.index_mut-record.result.now c.index_mut-record.ensures.value
-    c.is_frozen.result c.is_frozen.ensures ∙ ap Some c.if-is_frozen.false
+    c.is_frozen.result c.is_frozen.ensures ∙ ap Some c.in_ok-unless_frozen.ensures.free
