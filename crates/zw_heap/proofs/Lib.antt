@@ -6,7 +6,7 @@ pub mod SuperclassLemmas
 pub mod SoundLemmas
 pub mod ChangeLemmas
 pub mod WriteLemmas
-pub mod ReadLemmas
+pub mod EarlierLemmas
 pub mod BootLemmas
 pub mod CoreLemmas
 pub mod NewLemmas

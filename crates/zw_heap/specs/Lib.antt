@@ -8,6 +8,7 @@ pub mod Reach
 pub mod Founded
 pub mod Superclass
 pub mod Sound
+pub mod Earlier
 pub mod HeapSeen
 pub mod New
 pub mod Telling

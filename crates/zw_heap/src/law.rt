@@ -6,6 +6,7 @@ ghost use Rattle.zw_def_world.specs.CoreClass.{Exception, core_count, main_id};
 ghost use Rattle.zw_def_world.specs.Id.{boot_id};
 ghost use Rattle.zw_def_world.specs.World.{World};
 ghost use Rattle.zw_heap.specs.Change.{Change, changed};
+ghost use Rattle.zw_heap.specs.Earlier.{HoldEarlier};
 ghost use Rattle.zw_heap.specs.Sound.{IsSound};
 ghost use Rattle.zw_heap.specs.Superclass.{descends};
 ghost use Rattle.zw_heap.specs.Telling.{Telling, Fits, OnlyAdds, Agrees};
@@ -17,6 +18,13 @@ impl Heap {
     pub fn is_sound(&self)
         ensures sound { IsSound self.now }
         ensures few { length self.now.modules < 2 ^ 64 }
+    {
+        let _ = &self.alloc;
+    }
+
+    /// Each array holds earlier ones alone.
+    pub fn holds_earlier(&self)
+        ensures { HoldEarlier self.now.arrays }
     {
         let _ = &self.alloc;
     }

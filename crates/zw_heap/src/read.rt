@@ -5,7 +5,7 @@ ghost use Rattle.std.specs.Map.{lookup};
 ghost use Rattle.std.specs.Option.{option_map};
 ghost use Rattle.zw_heap.specs.CoreClass.{core_seen};
 ghost use Rattle.zw_heap.specs.Heap.{class_in, is_frozen_in, variables_in, sizes_of};
-ghost use Rattle.zw_heap.specs.Sound.{IsIn, IsBelow};
+ghost use Rattle.zw_heap.specs.Sound.{IsIn};
 ghost use Rattle.zw_heap.specs.declared.value.Value.TheVariants.{Module as ModuleValue, Object as ObjectValue};
 
 use crate::core_class::CoreClass;
@@ -103,12 +103,11 @@ impl Heap {
         self.texts[of.0].as_str()
     }
 
-    /// The items of an array. Those that are arrays were made before it.
+    /// The items of an array.
     pub fn items(&self, of: ArrayRef) -> &[Value]
         requires { of.0 < length self.now.arrays }
         ensures items { option_map (λ r. r.items) (slice_get self.now.arrays of.0) ≡ Some result.now }
         ensures held { All (IsIn (sizes_of self.now)) result.now }
-        ensures earlier { All (IsBelow of.0) result.now }
     {
         self.arrays[of.0].items()
     }

@@ -1,2 +1,4 @@
 pub mod QuoteLemmas
 pub mod SymbolLemmas
+pub mod HeightLemmas
+pub mod ShownLemmas

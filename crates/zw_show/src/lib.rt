@@ -4,7 +4,9 @@
 #![tactic(auto)]
 
 mod fault;
+mod inspect;
 mod line;
+mod object;
 mod piece;
 mod quote;
 mod symbol;
