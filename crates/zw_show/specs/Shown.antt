@@ -1,6 +1,6 @@
 -- The texts of a heap's values, by the texts of names.
-use Rattle.std.specs.Prelude.{ℕ, zero, suc, true, false, ◌==◌, List, [], ◌∷◌, ◌++◌, codes, length, Option, unwrap_or, if◌then◌else◌}
-use Rattle.std.specs.Option.{option_map, option_map_or}
+use Rattle.std.specs.Prelude.{ℕ, zero, suc, true, false, ◌==◌, List, [], ◌∷◌, ◌++◌, codes, length, unwrap_or, if◌then◌else◌}
+use Rattle.std.specs.Option.{option_map_or}
 use Rattle.std.specs.List.{slice_get}
 use Rattle.std.specs.Fmt.{signed_decimal}
 use Rattle.zw_def.specs.Text.{Text}
@@ -11,7 +11,6 @@ use Rattle.zw_def_world.specs.Quote.{quoted, symbol_text}
 use Rattle.zw_def_world.specs.Inspect.{message_behind, truth_text}
 use Rattle.zw_heap.specs.declared.value.Value.{Value}
 use Rattle.zw_heap.specs.declared.value.Value.TheVariants as v
-use Rattle.zw_heap.specs.ModuleRecord.{Module}
 use Rattle.zw_heap.specs.ObjectRecord.{Object}
 use Rattle.zw_heap.specs.Heap.{Held}
 use Rattle.zw_heap.specs.Superclass.{descends}
@@ -83,3 +82,16 @@ array_shown names h n = array_within names h (length h.arrays) n
 -- the inspect text
 abbrev pub shown : List Text → Held → Value → Text
 shown names h x = shown_by names h (array_shown names h) x
+
+-- ---- built-in texts
+
+abbrev pub object_built_in : List Text → Held → ℕ → Object → Text
+object_built_in names h n o =
+    if descends h.modules Exception.count o.class.0 then message_shown names h o else object_shown names h n
+
+abbrev pub built_in_shown : List Text → Held → Value → Text
+built_in_shown names h v.Nil = []
+built_in_shown names h (v.Text t) = text_in h t.0
+built_in_shown names h (v.Sym n) = text_of names n.0
+built_in_shown names h (v.Object o) = option_map_or (object_built_in names h o.0) (slice_get h.objects o.0) []
+built_in_shown names h x = shown names h x

@@ -4,13 +4,15 @@
 #![tactic(auto)]
 
 mod fault;
-mod inspect;
+mod items;
 mod line;
 mod object;
 mod piece;
 mod quote;
 mod symbol;
+mod value;
 mod writer;
 
 pub use fault::{ShowFault, TooLong};
 pub use line::{fault_line, quoted, symbol_text};
+pub use value::{inspect, to_text};

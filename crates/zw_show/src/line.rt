@@ -9,11 +9,8 @@ use crate::fault::ShowFault;
 use crate::piece::push;
 use crate::quote::{push_escaped_text, push_quoted};
 use crate::symbol::push_symbol;
-use crate::writer::Writer;
+use crate::writer::{MAX_TEXT, Writer};
 use std::alloc::{AllocError, Global};
-
-/// The most bytes of a text.
-const MAX_TEXT: usize = 1_048_576;
 
 /// A text in double quotes, which is the inspect text of a text (ISO/IEC 30170, 15.3.1.3.17). One that would be longer
 /// than a text may be is refused as soon as it is.
@@ -22,11 +19,7 @@ pub fn quoted(alloc: Global, text: &str) -> Result<String, ShowFault>
     ensures fits { IfOk result (λ made. length (string_bytes made) ≤ max_text) }
     ensures refused { IfRefused result (λ refusal. max_text < length (quoted text.now)) }
 {
-    let mut writer = Writer {
-        alloc,
-        most: MAX_TEXT,
-        text: String::new(alloc),
-    };
+    let mut writer = Writer::new(alloc, MAX_TEXT);
     push_quoted(&mut writer, text)?;
     Ok(writer.text)
 }
@@ -38,11 +31,7 @@ pub fn symbol_text(alloc: Global, name: &str) -> Result<String, ShowFault>
     ensures fits { IfOk result (λ made. length (string_bytes made) ≤ max_text) }
     ensures refused { IfRefused result (λ refusal. max_text < length (symbol_text name.now)) }
 {
-    let mut writer = Writer {
-        alloc,
-        most: MAX_TEXT,
-        text: String::new(alloc),
-    };
+    let mut writer = Writer::new(alloc, MAX_TEXT);
     push_symbol(&mut writer, name)?;
     Ok(writer.text)
 }
@@ -62,11 +51,7 @@ pub fn fault_line(alloc: Global, class: &str, message: &str) -> Result<String, A
     ensures { IfOk result (λ line.
         string_bytes line ≡ codes "! " ++ class.now ++ codes ": " ++ escaped_text message.now) }
 {
-    let mut writer = Writer {
-        alloc,
-        most: usize::MAX,
-        text: String::new(alloc),
-    };
+    let mut writer = Writer::new(alloc, usize::MAX);
     match push_fault(&mut writer, class, message) {
         Ok(()) => Ok(writer.text),
         Err(_) => Err(AllocError),

@@ -2,7 +2,7 @@ use Rattle.std.proofs.Common.{◌++◌, codes, refl, ap, sym, ◌∙◌, append_
 use Rattle.zw_show.specs.Shown.{items_from, items_in, array_shown, shown}
 use Rattle.zw_show.proofs.QuoteLemmas.{stops, err_is}
 use Rattle.zw_show.proofs.ShownLemmas.{array_shown-is, items_in-is}
-use Rattle.zw_show.proofs.inspect.+inspect.Goals as goal
+use Rattle.zw_show.proofs.items.+inspect.Goals as goal
 
 pub push_array-returns-in_err-push : goal.push_array-returns-in_err-push
 push_array-returns-in_err-push t c =

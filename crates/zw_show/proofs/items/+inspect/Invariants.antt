@@ -1,7 +1,7 @@
 use Rattle.std.proofs.Common.{◌≡◌, ◌++◌, ◌+◌, ◌*◌, drop, string_bytes}
 use Rattle.zw_show.specs.Shown.{items_from, array_shown, shown}
 use Rattle.zw_show.proofs.HeightLemmas.{height}
-use Rattle.zw_show.proofs.inspect.+inspect.Given as goal
+use Rattle.zw_show.proofs.items.+inspect.Given as goal
 
 abbrev pub decreases-push_array : goal.decreases-push_array
 decreases-push_array l = 3 * l.array.0 + 2
