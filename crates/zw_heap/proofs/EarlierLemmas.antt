@@ -2,7 +2,6 @@
 use Rattle.std.proofs.Common.{◌≡◌, ℕ, zero, suc, ◌+◌, List, [], ◌∷◌, ◌++◌, length, slice_get, Some, subst, arith, zero-add}
 use Rattle.std.specs.List.{All}
 use Rattle.std.proofs.lemmas.List.{length-append}
-use Rattle.zw_heap.specs.declared.value.Value.{Value}
 use Rattle.zw_heap.specs.Heap.{Row}
 use Rattle.zw_heap.specs.Sound.{IsBelow, AreBuilt}
 use Rattle.zw_heap.specs.Earlier.{HoldEarlier}

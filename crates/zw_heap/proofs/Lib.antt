@@ -13,3 +13,4 @@ pub mod NewLemmas
 pub mod AddsLemmas
 pub mod CoreTellingLemmas
 pub mod ExceptionLemmas
+pub mod ExistsLemmas

@@ -12,6 +12,7 @@ ghost use Rattle.zw_heap.specs.Superclass.{descends};
 ghost use Rattle.zw_heap.specs.Telling.{Telling, Fits, OnlyAdds, Agrees};
 
 use crate::heap::Heap;
+use zw_names::Names;
 
 impl Heap {
     /// What is true of every heap.
@@ -52,5 +53,14 @@ impl Heap {
             → makes_exceptions w (I.module_id class) ≡ Some (descends self.now.modules Exception.count class) }
     {
         self.is_sound();
+    }
+
+    /// Each heap is told by some telling, and beside each world there is one that agrees with it.
+    pub fn is_told(&self, names: &Names)
+        ensures { (w : World) → (I : Telling) × (agreeing : World) × Fits I names.now self.now
+            × Agrees I self.now agreeing }
+    {
+        self.is_sound();
+        names.are_distinct();
     }
 }

@@ -1,5 +1,4 @@
-use Rattle.std.proofs.Common.{sym, subst}
-use Rattle.zw_heap.specs.HeapSeen.{heap_seen}
+use Rattle.std.proofs.Common.{subst}
 use Rattle.zw_heap.specs.Sound.{IsSound}
 use Rattle.zw_heap.proofs.CoreTellingLemmas.{core_told, main_told}
 use Rattle.zw_heap.proofs.heap.Heap.tells_core.Goals as goal
