@@ -1,8 +1,10 @@
 //! Heaps: what is read is what was written, in that record alone.
+ghost use Rattle.std.specs.Prelude.{◌<◌, IfOk, length};
+
 use std::alloc::Global;
 use std::process::Abort;
 use std::test::Fail;
-use zw_heap::{CoreClass, Heap, HeapFault, HeapRefusal, ModuleKind, PrimId, Value};
+use zw_heap::{ArrayRef, CoreClass, Heap, HeapFault, HeapRefusal, ModuleKind, PrimId, Value};
 use zw_names::{CPath, Names};
 
 #[test]
@@ -21,23 +23,33 @@ fn a_variable_is_that_of_one_object(rt: HostRuntime) -> Result<(), Fail> {
     Ok(())
 }
 
+/// What is refused where a record is frozen.
+const FROZEN: Result<(), HeapFault> = Err(HeapFault::Refused(HeapRefusal::Frozen));
+
 #[test]
-fn what_is_frozen_does_not_change(rt: HostRuntime) -> Result<(), Fail> {
+fn what_is_frozen_keeps_its_message(rt: HostRuntime) -> Result<(), Fail> {
     let mut names = Names::new(rt.alloc())?;
     let mut heap = Heap::new(rt.alloc(), &mut names)?;
-    let x = names.intern("x")?;
-    heap.tell_names(&names);
     let object = heap.make_object(heap.core(CoreClass::Exception))?;
     heap.set_message(object, "kept")?;
     assert!(rt; !heap.is_frozen(Value::Object(object)) && heap.is_frozen(Value::Int(1)));
     heap.freeze(Value::Object(object));
     assert!(rt; heap.is_frozen(Value::Object(object)));
-    let refused = Err(HeapFault::Refused(HeapRefusal::Frozen));
-    assert!(rt; heap.set_message(object, "other") == refused);
+    assert!(rt; heap.set_message(object, "other") == FROZEN);
     assert!(rt; heap.message(object) == Some("kept"));
-    assert!(rt; heap.set_ivar(Value::Object(object), x, Value::Nil) == refused);
-    assert!(rt; heap.set_ivar(Value::Int(1), x, Value::Nil) == refused);
-    assert!(rt; heap.get_ivar(Value::Object(object), x).is_none());
+    Ok(())
+}
+
+#[test]
+fn what_is_frozen_gets_no_variable(rt: HostRuntime) -> Result<(), Fail> {
+    let mut names = Names::new(rt.alloc())?;
+    let x = names.intern("x")?;
+    let mut heap = Heap::new(rt.alloc(), &mut names)?;
+    let main = Value::Object(heap.main());
+    heap.freeze(main);
+    assert!(rt; heap.set_ivar(main, x, Value::Nil) == FROZEN);
+    assert!(rt; heap.set_ivar(Value::Int(1), x, Value::Nil) == FROZEN);
+    assert!(rt; heap.get_ivar(main, x).is_none());
     Ok(())
 }
 
@@ -106,24 +118,24 @@ fn the_longest_text_is_made(rt: HostRuntime) -> Result<(), Fail> {
     Ok(())
 }
 
-/// Arrays that stand in one another, and why there is not one more.
-fn nested(heap: &mut Heap, count: usize) -> Result<Option<HeapFault>, Fail> {
+/// An array in which so many stand in one another, the outer ones with one item.
+fn nested(heap: &mut Heap, count: usize) -> Result<ArrayRef, HeapFault>
+    ensures { IfOk result (λ array. array.0 < length heap.new.arrays) }
+{
     let mut array = heap.make_array(&[])?;
     for _ in 1..count {
-        match heap.make_array(&[Value::Array(array), Value::Nil]) {
-            Ok(outer) => array = outer,
-            Err(fault) => return Ok(Some(fault)),
-        }
+        array = heap.make_array(&[Value::Array(array)])?;
     }
-    Ok(None)
+    Ok(array)
 }
 
 #[test]
 fn arrays_are_nested_a_hundred_deep(rt: HostRuntime) -> Result<(), Fail> {
     let mut names = Names::new(rt.alloc())?;
     let mut heap = Heap::new(rt.alloc(), &mut names)?;
-    assert!(rt; nested(&mut heap, 100)?.is_none());
-    assert!(rt; nested(&mut heap, 101)? == Some(HeapFault::Refused(HeapRefusal::TooDeep)));
+    let refused = Err(HeapFault::Refused(HeapRefusal::TooDeep));
+    assert!(rt; nested(&mut heap, 100).is_ok());
+    assert!(rt; nested(&mut heap, 101) == refused);
     Ok(())
 }
 

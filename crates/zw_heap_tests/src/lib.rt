@@ -11,6 +11,8 @@ mod object;
 #[cfg(test)]
 mod quote;
 #[cfg(test)]
+mod receiver;
+#[cfg(test)]
 mod symbol;
 #[cfg(test)]
 mod value;

@@ -1,7 +1,9 @@
 //! Limits of texts.
+ghost use Rattle.std.specs.Prelude.{◌≡◌, ◌<◌, IfOk, length};
+
 use std::alloc::Global;
 use std::test::Fail;
-use zw_heap::{Heap, Value};
+use zw_heap::{ArrayRef, Heap, HeapFault, Value};
 use zw_names::Names;
 use zw_show::{inspect, quoted};
 
@@ -27,14 +29,22 @@ fn the_longest_text_is_quoted(rt: HostRuntime) -> Result<(), Fail> {
     Ok(())
 }
 
-/// Whether an array has a text in which so many stand in one another, each twice in the next.
-fn is_told(alloc: Global, levels: usize) -> Result<bool, Fail> {
-    let mut names = Names::new(alloc)?;
-    let mut heap = Heap::new(alloc, &mut names)?;
+/// An array in which so many stand in one another, each twice in the next.
+fn doubled(heap: &mut Heap, levels: usize) -> Result<ArrayRef, HeapFault>
+    ensures held { IfOk result (λ array. array.0 < length heap.new.arrays) }
+    ensures names { heap.new.names ≡ heap.old.names }
+{
     let mut array = heap.make_array(&[])?;
     for _ in 1..levels {
         array = heap.make_array(&[Value::Array(array), Value::Array(array)])?;
     }
+    Ok(array)
+}
+
+fn is_told(alloc: Global, levels: usize) -> Result<bool, Fail> {
+    let mut names = Names::new(alloc)?;
+    let mut heap = Heap::new(alloc, &mut names)?;
+    let array = doubled(&mut heap, levels)?;
     Ok(inspect(alloc, &heap, &names, Value::Array(array)).is_ok())
 }
 

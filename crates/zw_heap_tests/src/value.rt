@@ -1,8 +1,10 @@
 //! Texts of numbers, texts, symbols, arrays and modules.
+ghost use Rattle.std.specs.Prelude.{◌≡◌, ◌<◌, IfOk, length};
+
 use std::alloc::Global;
 use std::process::Abort;
 use std::test::Fail;
-use zw_heap::{CoreClass, Heap, Value};
+use zw_heap::{ArrayRef, CoreClass, Heap, HeapFault, Value};
 use zw_names::Names;
 use zw_show::{inspect, to_text};
 
@@ -122,13 +124,22 @@ fn modules_are_their_paths(rt: HostRuntime) -> Result<(), Fail> {
     )
 }
 
-fn try_array(rt: &impl Abort, alloc: Global, items: &[i64], wanted: &str) -> Result<(), Fail> {
+/// An array that holds a number, the array of the numbers before it, and nil.
+fn nested(heap: &mut Heap, numbers: &[i64]) -> Result<ArrayRef, HeapFault>
+    ensures held { IfOk result (λ array. array.0 < length heap.new.arrays) }
+    ensures names { heap.new.names ≡ heap.old.names }
+{
+    let mut array = heap.make_array(&[])?;
+    for number in numbers {
+        array = heap.make_array(&[Value::Int(*number), Value::Array(array), Value::Nil])?;
+    }
+    Ok(array)
+}
+
+fn try_array(rt: &impl Abort, alloc: Global, numbers: &[i64], wanted: &str) -> Result<(), Fail> {
     let mut names = Names::new(alloc)?;
     let mut heap = Heap::new(alloc, &mut names)?;
-    let mut array = heap.make_array(&[])?;
-    for item in items {
-        array = heap.make_array(&[Value::Int(*item), Value::Array(array), Value::Nil])?;
-    }
+    let array = nested(&mut heap, numbers)?;
     let made = inspect(alloc, &heap, &names, Value::Array(array))?;
     assert!(rt; made.as_str() == wanted, "at {wanted}");
     let made = to_text(alloc, &heap, &names, Value::Array(array))?;

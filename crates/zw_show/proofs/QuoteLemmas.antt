@@ -104,3 +104,11 @@ stops {X} Y old mid new want rest piece later most e cut f r is w = subst (Write
 pub err_is : {X E : Type 0} (r : Result X E) (f : E) → IsErrAnd r (λ e. e ≡ f) → r ≡ Err f
 err_is (Ok x) f a = absurd a
 err_is (Err e) f a = ap Err a
+
+-- two pieces, the first of which is written
+pub Writes-then : {X : Type 0} (old mid new : Writer) (p q : Text) (r : Result X (Fault TooLong)) → string_bytes mid.text ≡ string_bytes old.text ++ p → mid.most ≡ old.most → Writes mid new q r → Writes old new (p ++ q) r
+Writes-then old mid new p q (Ok x) first most w = (w.0 ∙ ap (λ t. t ++ q) first ∙ append_assoc (string_bytes old.text) p q, w.1 ∙ most)
+Writes-then old mid new p q (Err (Refused refusal)) first most w =
+    let whole = ap (λ t. t ++ q) first ∙ append_assoc (string_bytes old.text) p q in
+    subst (λ (t : Text). old.most < length t) whole (subst (λ n. n < length (string_bytes mid.text ++ q)) most w)
+Writes-then old mid new p q (Err Memory) first most w = tt

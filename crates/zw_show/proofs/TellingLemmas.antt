@@ -3,6 +3,7 @@ use Rattle.std.proofs.Common.{◌≡◌, Bool, true, false, ◌&&◌, ◌==◌, 
 use Rattle.std.specs.Option.{option_map, option_map_or}
 use Rattle.std.specs.List.{All}
 use Rattle.std.proofs.lemmas.Bool.{eqb-true, eq-eqb}
+use Rattle.std.proofs.lemmas.List.{length-map}
 use Rattle.std.proofs.lemmas.List.Elements.{All-head, All-tail}
 use Rattle.std.proofs.lemmas.Option.{slice_get_cases, get_or_from_slice_get, slice_get_within}
 use Rattle.zw_lemmas.proofs.ListLemmas.{map-same}
@@ -10,23 +11,26 @@ use Rattle.zw_def.specs.Text.{Text}
 use Rattle.zw_def.specs.Names.{text_of, texts_of}
 use Rattle.zw_def.specs.ConstantPath.{ConstantPath, constant_path_text}
 use Rattle.zw_def_world.specs.Missing.{bind}
-use Rattle.zw_def_world.specs.Id.{Id, same_load}
-use Rattle.zw_def_world.specs.CoreClass.{Exception, core_count, main_id, is_main}
+use Rattle.zw_def_world.specs.Id.{Id, boot_id, same_load}
+use Rattle.zw_def_world.specs.CoreClass.{Integer, String_class, Symbol_class, Array, Exception, core_count, main_id, is_main}
 use Rattle.zw_def_world.specs.Value as told
+use Rattle.zw_def_world.specs.Record as told_record
 use Rattle.zw_def_world.specs.World.{World}
 use Rattle.zw_def_world.specs.Quote.{quoted, symbol_text}
 use Rattle.zw_def_world.specs.Ancestor.{makes_exceptions}
-use Rattle.zw_def_world.specs.Inspect.{class_text, message_of, message_behind, exception_text, plain_text, object_text, inspected, inspected_items, inspected_more, object_built_in as told_built_in, built_in, module_text}
+use Rattle.zw_def_world.specs.Inspect.{class_text, class_name, instance_text, told_module, told as told_receiver, message_of, message_behind, exception_text, plain_text, object_text, inspected, inspected_items, inspected_more, object_built_in as told_built_in, built_in, module_text}
 use Rattle.zw_heap.specs.declared.value.Value.{Value}
 use Rattle.zw_heap.specs.declared.value.Value.TheVariants as v
 use Rattle.zw_heap.specs.ModuleRecord.{Module}
 use Rattle.zw_heap.specs.ObjectRecord.{Object}
 use Rattle.zw_heap.specs.Heap.{Held, Row, sizes_of}
+use Rattle.zw_heap.specs.Founded.{is_class}
+use Rattle.zw_heap.specs.Place.{at_boot}
 use Rattle.zw_heap.specs.Superclass.{descends}
 use Rattle.zw_heap.specs.Telling.{Telling, Fits, told_object, Agrees, tell}
 use Rattle.zw_heap.specs.Sound.{IsIn, IsBelow, RowIn, ModuleIn, ObjectIn, IsSound}
 use Rattle.zw_heap.specs.Earlier.{HoldEarlier}
-use Rattle.zw_show.specs.Shown.{path_shown, message_shown, plain_shown, record_shown, object_shown, text_in, items_from, array_shown, shown, object_built_in, built_in_shown}
+use Rattle.zw_show.specs.Shown.{path_shown, message_shown, plain_shown, record_shown, object_shown, text_in, items_from, array_shown, shown, object_built_in, built_in_shown, module_word, module_shown, instance_shown, receiver_shown}
 use Rattle.zw_show.proofs.ShownLemmas.{array_shown-is, items_in-is}
 
 -- ---- lists
@@ -63,6 +67,7 @@ pub record Reading (I : Telling) (names : List Text) (h : Held) (w : World) : Ty
   pub agrees : Agrees I h w
   pub sound : IsSound h
   pub named : h.names ≤ length names
+  pub core : (n : ℕ) → n < core_count → I.module_id n ≡ boot_id n
   pub main : I.object_id 0 ≡ main_id
   pub excepts : (class : ℕ) → class < length h.modules → makes_exceptions w (I.module_id class) ≡ Some (descends h.modules Exception.count class)
   pub earlier : HoldEarlier h.arrays
@@ -229,3 +234,49 @@ module _ (I : Telling) (names : List Text) (h : Held) (w : World) (r : Reading I
       ap (λ a. bind a (told_built_in w (I.object_id o.0))) (r.agrees.objects o.0 at.0 at.1) ∙ built_in_told at.0 (object_in o.0 at.0 at.1) o.0 at.1
       ∙ sym (ap (λ a. Some (option_map_or (object_built_in names h o.0) a [])) at.1)
   built_in-told (v.Module m) known = class_told m.0 known
+
+  -- ---- receivers
+
+  core_in : (n : ℕ) → n < core_count → n < length h.modules
+  core_in n lt =
+      let within = slice_get_within (map (λ (m : Module). m.made) h.modules) n (at_boot n) (r.sound.made.core n lt) in
+      let len = length-map h.modules (λ (m : Module). m.made) in omega (arith, within, len)
+
+  core_told : (n : ℕ) → n < core_count → class_text w (boot_id n) ≡ Some (path_shown names h n)
+  core_told n lt = ap (class_text w) (sym (r.core n lt)) ∙ class_told n (core_in n lt)
+
+  instance_told : (n : ℕ) → n < length h.objects → class_name w (told.object_at (I.object_id n)) ≡ Some (path_shown names h (unwrap_or (option_map (λ (o : Object). o.class.0) (slice_get h.objects n)) 0))
+  instance_told n lt =
+      let at = there h.objects n lt in
+      ap (λ a. bind (option_map (λ (o : told_record.Object). o.class) a) (class_text w)) (r.agrees.objects n at.0 at.1) ∙ class_told at.0.class.0 (object_in n at.0 at.1)
+      ∙ sym (ap (λ a. Some (path_shown names h (unwrap_or (option_map (λ (o : Object). o.class.0) a) 0))) at.1)
+
+  module_told : (n : ℕ) → n < length h.modules → option_map told_module (w.modules (I.module_id n)) ≡ Some (module_shown names h n)
+  module_told n lt =
+      let at = there h.modules n lt in
+      let known = r.agrees.modules n at.0 at.1 in
+      let text : module_text known.0 ≡ path_shown names h n = some_same (sym (ap (option_map module_text) known.1) ∙ class_told n lt) in
+      ap (option_map told_module) known.1 ∙ ap Some (word known.0.is_class (module_text known.0)) ∙ (λ i. Some (module_word (known.2.kind i) ++ text i))
+      ∙ sym (ap (λ a. Some (module_word (option_map_or (λ (m : Module). is_class m.kind) a false) ++ path_shown names h n)) at.1)
+    where
+      some_same : {a b : Text} → Some a ≡ Some b → a ≡ b
+      some_same e = cc e
+
+      word : (b : Bool) (t : Text) → cond b (codes "class ") (codes "module ") ++ t ≡ module_word b ++ t
+      word true t = refl
+      word false t = refl
+
+  pub receiver-told : (x : Value) → IsIn (sizes_of h) x → told_receiver w (tell I x) ≡ Some (receiver_shown names h x)
+  receiver-told v.Nil known = refl
+  receiver-told v.True known = refl
+  receiver-told v.False known = refl
+  receiver-told (v.Int z) known = ap (option_map instance_text) (core_told Integer.count (omega arith))
+  receiver-told (v.Text t) known = ap (option_map instance_text) (core_told String_class.count (omega arith))
+  receiver-told (v.Sym n) known = ap (option_map instance_text) (core_told Symbol_class.count (omega arith))
+  receiver-told (v.Array a) known = ap (option_map instance_text) (core_told Array.count (omega arith))
+  receiver-told (v.Object o) known = (λ i. cond (main_told o.0 i) (Some (codes "main")) (option_map instance_text (instance_told o.0 known i))) ∙ by (o.0 == 0)
+    where
+      by : (b : Bool) → cond b (Some (codes "main")) (Some (instance_shown names h (v.Object o))) ≡ Some (cond b (codes "main") (instance_shown names h (v.Object o)))
+      by true = refl
+      by false = refl
+  receiver-told (v.Module m) known = module_told m.0 known

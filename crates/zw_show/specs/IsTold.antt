@@ -3,7 +3,7 @@ use Rattle.std.specs.Prelude.{◌≡◌, ◌<◌, List, length, Option, Some}
 use Rattle.zw_def.specs.Text.{Text}
 use Rattle.zw_def_world.specs.World.{World}
 use Rattle.zw_def_world.specs.Making.{max_text}
-use Rattle.zw_def_world.specs.Inspect.{inspected, built_in}
+use Rattle.zw_def_world.specs.Inspect.{inspected, built_in, told}
 use Rattle.zw_heap.specs.declared.value.Value.{Value}
 use Rattle.zw_heap.specs.Heap.{Held}
 use Rattle.zw_heap.specs.Telling.{Telling, Fits, Agrees, tell}
@@ -21,3 +21,6 @@ inspect_of x I w = inspected w (tell I x)
 
 abbrev pub built_in_of : Value → Telling → World → Option Text
 built_in_of x I w = built_in w (tell I x)
+
+abbrev pub receiver_of : Value → Telling → World → Option Text
+receiver_of x I w = told w (tell I x)

@@ -1,5 +1,5 @@
 -- The texts of a heap's values, by the texts of names.
-use Rattle.std.specs.Prelude.{ℕ, zero, suc, true, false, ◌==◌, List, [], ◌∷◌, ◌++◌, codes, length, unwrap_or, if◌then◌else◌}
+use Rattle.std.specs.Prelude.{ℕ, Bool, zero, suc, true, false, ◌==◌, List, [], ◌∷◌, ◌++◌, codes, length, unwrap_or, if◌then◌else◌}
 use Rattle.std.specs.Option.{option_map_or}
 use Rattle.std.specs.List.{slice_get}
 use Rattle.std.specs.Fmt.{signed_decimal}
@@ -8,11 +8,12 @@ use Rattle.zw_def.specs.Names.{text_of, texts_of}
 use Rattle.zw_def.specs.ConstantPath.{constant_path_text}
 use Rattle.zw_def_world.specs.CoreClass.{Exception}
 use Rattle.zw_def_world.specs.Quote.{quoted, symbol_text}
-use Rattle.zw_def_world.specs.Inspect.{message_behind, truth_text}
+use Rattle.zw_def_world.specs.Inspect.{message_behind, truth_text, instance_text}
 use Rattle.zw_heap.specs.declared.value.Value.{Value}
 use Rattle.zw_heap.specs.declared.value.Value.TheVariants as v
 use Rattle.zw_heap.specs.ObjectRecord.{Object}
-use Rattle.zw_heap.specs.Heap.{Held}
+use Rattle.zw_heap.specs.Heap.{Held, class_in}
+use Rattle.zw_heap.specs.Founded.{is_class}
 use Rattle.zw_heap.specs.Superclass.{descends}
 
 -- ---- classes and objects
@@ -95,3 +96,24 @@ built_in_shown names h (v.Text t) = text_in h t.0
 built_in_shown names h (v.Sym n) = text_of names n.0
 built_in_shown names h (v.Object o) = option_map_or (object_built_in names h o.0) (slice_get h.objects o.0) []
 built_in_shown names h x = shown names h x
+
+-- ---- receivers
+
+abbrev pub module_word : Bool → Text
+module_word true = codes "class "
+module_word false = codes "module "
+
+abbrev pub module_shown : List Text → Held → ℕ → Text
+module_shown names h n =
+    module_word (option_map_or (λ m. is_class m.kind) (slice_get h.modules n) false) ++ path_shown names h n
+
+abbrev pub instance_shown : List Text → Held → Value → Text
+instance_shown names h x = instance_text (path_shown names h (unwrap_or (class_in h x) 0))
+
+abbrev pub receiver_shown : List Text → Held → Value → Text
+receiver_shown names h v.Nil = codes "nil"
+receiver_shown names h v.True = truth_text true
+receiver_shown names h v.False = truth_text false
+receiver_shown names h (v.Module m) = module_shown names h m.0
+receiver_shown names h (v.Object o) = if o.0 == 0 then codes "main" else instance_shown names h (v.Object o)
+receiver_shown names h x = instance_shown names h x

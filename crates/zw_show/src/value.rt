@@ -6,8 +6,8 @@ ghost use Rattle.zw_heap.specs.declared.value.Value.{Value as Item};
 ghost use Rattle.zw_heap.specs.declared.value.Value.TheVariants.{Object as ObjectValue};
 ghost use Rattle.zw_heap.specs.Heap.{sizes_of};
 ghost use Rattle.zw_heap.specs.Sound.{IsIn};
-ghost use Rattle.zw_show.specs.IsTold.{IsTold, IsTooLong, inspect_of, built_in_of};
-ghost use Rattle.zw_show.specs.Shown.{shown, built_in_shown};
+ghost use Rattle.zw_show.specs.IsTold.{IsTold, IsTooLong, inspect_of, built_in_of, receiver_of};
+ghost use Rattle.zw_show.specs.Shown.{shown, built_in_shown, receiver_shown};
 ghost use Rattle.zw_show.specs.Writes.{Writes};
 
 use crate::fault::ShowFault;
@@ -20,12 +20,14 @@ use zw_heap::{Heap, ObjRef, Value};
 use zw_names::Names;
 
 /// The text of each value is the same in every world.
-fn tells_values(heap: &Heap, names: &Names)
+pub(crate) fn tells_values(heap: &Heap, names: &Names)
     requires { heap.now.names ≤ length names.now }
     ensures inspect { (x : Item) → IsIn (sizes_of heap.now) x
         → IsTold heap.now names.now (inspect_of x) (shown names.now heap.now x) }
     ensures built_in { (x : Item) → IsIn (sizes_of heap.now) x
         → IsTold heap.now names.now (built_in_of x) (built_in_shown names.now heap.now x) }
+    ensures receiver { (x : Item) → IsIn (sizes_of heap.now) x
+        → IsTold heap.now names.now (receiver_of x) (receiver_shown names.now heap.now x) }
 {
     let _ = names;
     heap.is_sound();
