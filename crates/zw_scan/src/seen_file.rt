@@ -1,8 +1,9 @@
 //! The visible files of a tree (Zeitwerk README, "File structure" and "Ignoring parts of the project").
 ghost use Rattle.std.specs.Prelude.{◌≡◌, ◌++◌, [], List, Some, IfOk, OnOk, map, option_map};
-ghost use Rattle.std.specs.List.{cons_option};
+ghost use Rattle.std.specs.List.{cons_option, filter};
 ghost use Rattle.zw_def.specs.Text.{Text};
 ghost use Rattle.zw_def.specs.Names.{OnlyGrows};
+ghost use Rattle.zw_def.specs.Visible.{is_visible};
 ghost use Rattle.zw_inflect.specs.Layout.{layout_seen};
 ghost use Rattle.zw_layout.specs.Expects.{AreNamespacesNamed};
 ghost use Rattle.zw_scan.specs.FileTold.{file_told, files_told, told_with};
@@ -77,6 +78,8 @@ pub fn seen_files(
     requires { AreNamespacesNamed names.old layout.now }
     ensures told { IfOk result (λ files. (later : List Text) → OnlyGrows names.new later →
         map (file_seen later) files.items ≡ files_told (layout_seen later layout.now) paths.now) }
+    ensures paths { IfOk result (λ files. (later : List Text) → OnlyGrows names.new later →
+        map (λ f. f.path) files.items ≡ filter (is_visible (layout_seen later layout.now)) paths.now) }
     ensures grows { OnlyGrows names.old names.new }
 {
     let mut files = Vec::new(alloc);

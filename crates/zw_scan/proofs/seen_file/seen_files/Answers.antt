@@ -1,10 +1,11 @@
-use Rattle.std.proofs.Common.{◌++◌, [], map, ap, sym, ◌∙◌}
+use Rattle.std.proofs.Common.{◌++◌, [], map, ap, sym, refl, ◌∙◌}
 use Rattle.std.specs.List.{cons_option}
+use Rattle.std.proofs.lemmas.List.{take_all}
 use Rattle.zw_def.proofs.NameLemmas.{OnlyGrows-trans}
 use Rattle.zw_inflect.specs.Layout.{layout_seen}
-use Rattle.zw_scan.specs.FileTold.{file_told}
+use Rattle.zw_scan.specs.FileTold.{file_told, files_told}
 use Rattle.zw_scan.specs.FileSeen.{file_seen}
-use Rattle.zw_scan.proofs.FileToldLemmas.{filter_map_more, map_some}
+use Rattle.zw_scan.proofs.FileToldLemmas.{seen_paths, filter_map_more, map_some}
 use Rattle.zw_scan.proofs.seen_file.seen_files.Goals as goal
 
 pub loop-path-preserved : goal.loop-path-preserved
@@ -19,3 +20,9 @@ loop-path-preserved c =
           ∙ sym (filter_map_more (file_told layout) c.args.paths.now c.loop-path.path-index c.path-item.result c.loop-path-test.true c.path-item.is)),
       OnlyGrows-trans _ _ _ inv.1 grows,
     )
+
+pub returns-clause-paths : goal.returns-clause-paths
+returns-clause-paths c later grows =
+    let layout = layout_seen later c.args.layout.now in
+    let all = take_all c.loop-path.path-index c.args.paths.now c.loop-path-test.false in
+    seen_paths (λ f. f.path) (file_seen later) c.loop-path.files.items layout c.args.paths.now (λ f. refl) (c.loop-path.invariant.0 later grows ∙ ap (files_told layout) all)
