@@ -1,0 +1,4 @@
+pub mod ListLemmas
+pub mod KnownLemmas
+pub mod HeldLemmas
+pub mod JoinLemmas

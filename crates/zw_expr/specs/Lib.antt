@@ -1,0 +1,9 @@
+pub mod Known
+pub mod Named
+pub mod Front
+pub mod Reads
+pub mod Kind
+pub mod Nests
+pub mod Sign
+pub mod Operand
+pub mod Joined
