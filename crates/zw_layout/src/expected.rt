@@ -54,8 +54,8 @@ fn push_name(
     requires some { 0 < depth }
     requires within { depth ≤ length path.now }
     requires named { AreNamed names.old namespace.old }
-    ensures told { Extends names.new namespace.new result (
-        defined.named (layout_seen names.new layout.now) base.now (take depth path.now) (texts_of names.old namespace.old)) }
+    ensures told { Extends names.new namespace.new result (defined.named
+        (layout_seen names.new layout.now) base.now (take depth path.now) (texts_of names.old namespace.old)) }
     ensures named { OnOk result (AreNamed names.new namespace.new) }
     ensures grows { OnlyGrows names.old names.new }
 {

@@ -74,7 +74,8 @@ fn next_fronts(
     depth: usize,
 ) -> Result<Vec<bool>, AllocError>
     requires within { depth < length components.now }
-    requires here { fronts.now ≡ fronts_of (map string_bytes pattern.now) (take depth (map string_bytes components.now)) }
+    requires here { fronts.now
+        ≡ fronts_of (map string_bytes pattern.now) (take depth (map string_bytes components.now)) }
     ensures { IfOk result (λ next.
         next.items ≡ fronts_of (map string_bytes pattern.now) (take (depth + 1) (map string_bytes components.now))) }
 {

@@ -1,13 +1,12 @@
 //! Roots, and the paths that belong to them (Zeitwerk README, "Root directories and root namespaces" and "Nested root
 //! directories").
-ghost use Rattle.std.specs.Prelude.{◌≡◌, List, length, nat_lt, true, None, IfSome, map, string_bytes, option_map};
+ghost use Rattle.std.specs.Prelude.{◌≡◌, List, true, IfSome, map, string_bytes, option_map};
 ghost use Rattle.std.specs.List.{fold, Contains};
-ghost use Rattle.std.specs.Option.{option_map_or};
 ghost use Rattle.zw_def.specs.Text.{Text};
 ghost use Rattle.zw_def.specs.Path.{is_below};
 ghost use Rattle.zw_def.specs.Layout as defined;
 ghost use Rattle.zw_inflect.specs.Layout.{root_seen, layout_seen};
-ghost use Rattle.zw_layout.specs.Deepest.{deeper, held};
+ghost use Rattle.zw_layout.specs.Deepest.{deeper, held, is_deeper};
 
 use zw_inflect::{Layout, Root};
 use zw_path::Path;
@@ -20,7 +19,7 @@ fn is_below(components: &[String], directory: &[String]) -> bool
 }
 
 fn is_deeper(root: &Root, best: Option<&Root>) -> bool
-    ensures { result ≡ option_map_or (λ other. nat_lt (length other.path) (length root.now.path)) (held best.entry) true }
+    ensures { result ≡ is_deeper root.now (held best.entry) }
 {
     match best {
         Some(other) => other.path.components().len() < root.path.components().len(),

@@ -1,9 +1,13 @@
 //! What files and directories are expected to define: a constant path, nothing, or the name that is wrong and where.
+ghost use Rattle.std.specs.Prelude.{IfOk, IfSome};
+ghost use Rattle.zw_def.specs.Names.{AreNamed};
+
 use crate::layout::layout;
 use std::alloc::{AllocError, Global};
 use std::process::Abort;
 use std::test::Fail;
-use zw_layout::{ExpectFault, directory_path, expected_path};
+use zw_inflect::Layout;
+use zw_layout::{ExpectFault, are_namespaces_named, directory_path, expected_path};
 use zw_names::{CPath, Names};
 use zw_path::Path;
 
@@ -59,7 +63,9 @@ fn shown(
     alloc: Global,
     names: &Names,
     answer: Result<Option<CPath>, ExpectFault>,
-) -> Result<String, Fail> {
+) -> Result<String, Fail>
+    requires { IfOk answer (λ path. IfSome path (AreNamed names.now)) }
+{
     match answer {
         Ok(Some(path)) => Ok(path.text(alloc, names)?),
         Ok(None) => Ok(String::from_str(alloc, "nothing")?),
@@ -71,14 +77,38 @@ fn shown(
     }
 }
 
+fn told_of_file(
+    rt: &impl Abort,
+    alloc: Global,
+    layout: &Layout,
+    names: &mut Names,
+    text: &str,
+) -> Result<String, Fail> {
+    let path = Path::parse(alloc, text)?;
+    assert!(rt; are_namespaces_named(layout, names));
+    let answer = expected_path(alloc, layout, names, &path);
+    shown(alloc, names, answer)
+}
+
+fn told_of_directory(
+    rt: &impl Abort,
+    alloc: Global,
+    layout: &Layout,
+    names: &mut Names,
+    text: &str,
+) -> Result<String, Fail> {
+    let path = Path::parse(alloc, text)?;
+    assert!(rt; are_namespaces_named(layout, names));
+    let answer = directory_path(alloc, layout, names, &path);
+    shown(alloc, names, answer)
+}
+
 #[test]
 fn files_are_expected_to_define_constants(rt: HostRuntime) -> Result<(), Fail> {
     let mut names = Names::new(rt.alloc())?;
     let layout = layout(rt.alloc(), &mut names)?;
     for (text, wanted) in FILES {
-        let path = Path::parse(rt.alloc(), text)?;
-        let answer = expected_path(rt.alloc(), &layout, &mut names, &path);
-        let told = shown(rt.alloc(), &names, answer)?;
+        let told = told_of_file(&rt, rt.alloc(), &layout, &mut names, text)?;
         assert!(rt; told.as_str() == *wanted, "{text} gives {told}");
     }
     Ok(())
@@ -89,9 +119,7 @@ fn directories_have_constant_paths(rt: HostRuntime) -> Result<(), Fail> {
     let mut names = Names::new(rt.alloc())?;
     let layout = layout(rt.alloc(), &mut names)?;
     for (text, wanted) in DIRECTORIES {
-        let path = Path::parse(rt.alloc(), text)?;
-        let answer = directory_path(rt.alloc(), &layout, &mut names, &path);
-        let told = shown(rt.alloc(), &names, answer)?;
+        let told = told_of_directory(&rt, rt.alloc(), &layout, &mut names, text)?;
         assert!(rt; told.as_str() == *wanted, "{text} gives {told}");
     }
     Ok(())

@@ -14,7 +14,13 @@ const ROOTS: &[(&str, &str)] = &[
 
 const IGNORE: &[&str] = &["m/tasks", "**/*_test.rb", "n/**/old"];
 
-const COLLAPSE: &[&str] = &["m/booking/actions", "m/*/shared", "**/inner", "m/flat.rb", "n"];
+const COLLAPSE: &[&str] = &[
+    "m/booking/actions",
+    "m/*/shared",
+    "**/inner",
+    "m/flat.rb",
+    "n",
+];
 
 const NO_EAGER: &[&str] = &["m/lazy"];
 

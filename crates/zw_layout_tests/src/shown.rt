@@ -8,37 +8,45 @@ use zw_layout::{is_collapsed, is_not_eager, is_root, is_visible, root_of};
 use zw_names::Names;
 use zw_path::Path;
 
-/// A path, the number of its root, and whether it is seen.
-const FILES: &[(&str, Option<usize>, bool)] = &[
-    ("m/user.rb", Some(0), true),
-    ("m/app/concerns.rb", Some(0), true),
-    ("m/app/concerns", Some(0), true),
-    ("m/app/concerns/taggable.rb", Some(1), true),
-    ("m/app/concerns2/x.rb", Some(0), true),
-    ("n/a/x.rb", Some(2), true),
-    ("n/old.rb", Some(2), true),
-    ("n/old/x.rb", Some(2), false),
-    ("n/a/b/old/x.rb", Some(2), false),
-    ("m/tasks.rb", Some(0), true),
-    ("m/tasks/clean.rb", Some(0), false),
-    ("m/tasks/a/b.rb", Some(0), false),
-    ("m/a_test.rb", Some(0), false),
-    ("m", None, false),
-    ("mm/a.rb", None, false),
-    ("q/m/a.rb", None, false),
+/// A path, its root, and whether it is seen.
+const FILES: &[(&str, &str, bool)] = &[
+    ("m/user.rb", "m", true),
+    ("m/app/concerns.rb", "m", true),
+    ("m/app/concerns", "m", true),
+    ("m/app/concerns/taggable.rb", "m/app/concerns", true),
+    ("m/app/concerns2/x.rb", "m", true),
+    ("n/a/x.rb", "n", true),
+    ("n/old.rb", "n", true),
+    ("n/old/x.rb", "n", false),
+    ("n/a/b/old/x.rb", "n", false),
+    ("m/tasks.rb", "m", true),
+    ("m/tasks/clean.rb", "m", false),
+    ("m/tasks/a/b.rb", "m", false),
+    ("m/a_test.rb", "m", false),
+    ("m", "none", false),
+    ("mm/a.rb", "none", false),
+    ("q/m/a.rb", "none", false),
 ];
+
+fn root_text(alloc: Global, layout: &Layout, path: &Path) -> Result<String, Fail> {
+    match root_of(layout, path) {
+        Some(root) => Ok(root.path.text(alloc)?),
+        None => Ok(String::from_str(alloc, "none")?),
+    }
+}
 
 fn try_file(
     rt: &impl Abort,
     alloc: Global,
     layout: &Layout,
-    row: (&str, Option<usize>, bool),
+    row: (&str, &str, bool),
 ) -> Result<(), Fail> {
-    let (text, number, visible) = row;
+    let (text, root, visible) = row;
     let path = Path::parse(alloc, text)?;
-    let root = root_of(layout, &path).map(|root| &root.path);
-    let wanted = number.map(|number| &layout.roots[number].path);
-    assert!(rt; root == wanted, "the root of {text}");
+    assert!(rt;
+        root_text(alloc, layout, &path)?.as_str() == root,
+        "the root of {text}"
+    );
     assert!(rt; is_visible(alloc, layout, &path)? == visible, "at {text}");
     Ok(())
 }
@@ -70,15 +78,32 @@ const DIRECTORIES: &[(&str, bool, bool, bool)] = &[
     ("m/lazy.rb", false, false, false),
 ];
 
+fn try_directory(
+    rt: &impl Abort,
+    alloc: Global,
+    layout: &Layout,
+    row: (&str, bool, bool, bool),
+) -> Result<(), Fail> {
+    let (text, root, collapsed, lazy) = row;
+    let path = Path::parse(alloc, text)?;
+    assert!(rt; is_root(layout, &path) == root, "root at {text}");
+    assert!(rt;
+        is_collapsed(layout, &path) == collapsed,
+        "collapsed at {text}"
+    );
+    assert!(rt;
+        is_not_eager(alloc, layout, &path)? == lazy,
+        "lazy at {text}"
+    );
+    Ok(())
+}
+
 #[test]
 fn patterns_stand_for_directories(rt: HostRuntime) -> Result<(), Fail> {
     let mut names = Names::new(rt.alloc())?;
     let layout = layout(rt.alloc(), &mut names)?;
-    for (text, root, collapsed, lazy) in DIRECTORIES {
-        let path = Path::parse(rt.alloc(), text)?;
-        assert!(rt; is_root(&layout, &path) == *root, "at {text}");
-        assert!(rt; is_collapsed(&layout, &path) == *collapsed, "at {text}");
-        assert!(rt; is_not_eager(rt.alloc(), &layout, &path)? == *lazy, "at {text}");
+    for row in DIRECTORIES {
+        try_directory(&rt, rt.alloc(), &layout, *row)?;
     }
     Ok(())
 }

@@ -3,6 +3,7 @@ use std::alloc::Global;
 use std::process::Abort;
 use std::test::Fail;
 use zw_inflect::{Inflector, Layout, Overrides, Root};
+use zw_layout::are_namespaces_named;
 use zw_names::{CPath, Names};
 use zw_path::{Path, Pattern};
 use zw_scan::{SeenFile, seen_files};
@@ -68,18 +69,32 @@ fn shown(alloc: Global, names: &Names, file: &SeenFile) -> Result<String, Fail> 
     }
 }
 
+fn try_row(
+    rt: &impl Abort,
+    alloc: Global,
+    names: &Names,
+    file: &SeenFile,
+    row: (&str, &str),
+) -> Result<(), Fail> {
+    let (path, told) = row;
+    assert!(rt;
+        file.path.text(alloc)?.as_str() == path,
+        "in place of {path}"
+    );
+    assert!(rt; shown(alloc, names, file)?.as_str() == told, "at {path}");
+    Ok(())
+}
+
 #[test]
 fn visible_files_have_rows(rt: HostRuntime) -> Result<(), Fail> {
     let alloc = rt.alloc();
     let mut names = Names::new(alloc)?;
     let layout = layout(alloc)?;
+    assert!(rt; are_namespaces_named(&layout, &names));
     let files = seen_files(alloc, &layout, &mut names, &paths(alloc)?)?;
     assert_eq!(rt; files.len(), ROWS.len());
-    for place in 0..ROWS.len() {
-        let (path, told) = ROWS[place];
-        let file = &files[place];
-        assert!(rt; file.path.text(alloc)?.as_str() == path, "at {place}");
-        assert!(rt; shown(alloc, &names, file)?.as_str() == told, "at {path}");
+    for place in 0..files.len() {
+        try_row(&rt, alloc, &names, &files[place], ROWS[place])?;
     }
     Ok(())
 }
