@@ -1,36 +1,14 @@
--- The signs that are methods, and what a level makes, turn by turn.
-use Rattle.std.proofs.Common.{◌≡◌, ◌<◌, Bool, true, false, ◌&&◌, if◌then◌else◌, List, [], ◌∷◌, ◌++◌, length, Option, Some, None, option_map, refl, sym, ap, ◌∙◌, codes, rules, arith}
+-- What a level makes, turn by turn.
+use Rattle.std.proofs.Common.{◌≡◌, ◌<◌, Bool, true, false, ◌&&◌, if◌then◌else◌, List, [], ◌∷◌, ◌++◌, length, Option, Some, None, option_map, refl, sym, ap, ◌∙◌, rules, arith}
 use Rattle.std.specs.Option.{option_and_then}
-use Rattle.std.specs.Str.{bytes_eq}
 use Rattle.std.proofs.lemmas.List.{map-append, length-map}
-use Rattle.zw_def.specs.Text.{Text, is_among}
+use Rattle.zw_def.specs.Text.{Text}
 use Rattle.zw_def_syntax.specs.Tree.{Tree, Grown, over_both}
 use Rattle.zw_def_syntax.specs.Levels as l
 use Rattle.zw_def_syntax.specs.Levels.{Level, Operand, Chain, before, join, joined_from, joined_by, is_of, stands_alone, folded, or_level, and_level, equal_level, compare_level, sum_level, term_level}
-use Rattle.zw_ast.specs.Operator.{operators}
-use Rattle.zw_expr.specs.declared.sign.Sign.{Sign}
-use Rattle.zw_expr.specs.declared.sign.Sign.TheVariants as s
-use Rattle.zw_expr.specs.Sign.{text_of_sign}
 use Rattle.zw_expr.specs.declared.operand.Operand as code
 use Rattle.zw_expr.specs.Operand.{level_sign, operand_seen, operands_seen}
 use Rattle.zw_expr.specs.Joined.{operands_of, paired, with_joined, with_last_joined, turn_of, resumed, joined, tight, loose, only, whole_of}
-
-pub is_method : (sign : Sign) → bytes_eq (text_of_sign sign) (codes "&&") ≡ false
-    → bytes_eq (text_of_sign sign) (codes "||") ≡ false → is_among operators (text_of_sign sign) ≡ true
-is_method s.Or a b = cc
-is_method s.And a b = cc
-is_method s.Equal a b = refl
-is_method s.NotEqual a b = refl
-is_method s.Compare a b = refl
-is_method s.Less a b = refl
-is_method s.LessEqual a b = refl
-is_method s.Greater a b = refl
-is_method s.GreaterEqual a b = refl
-is_method s.Plus a b = refl
-is_method s.Minus a b = refl
-is_method s.Times a b = refl
-is_method s.Divide a b = refl
-is_method s.Remainder a b = refl
 
 -- ---- the last of the operands
 

@@ -54,7 +54,6 @@ fn called(
 }
 
 /// Two operands with a sign between them.
-#[tactic(auto, using(crate::proofs::JoinLemmas::is_method))]
 pub(crate) fn join(
     maker: &Maker<'_>,
     sign: Sign,

@@ -1,7 +1,7 @@
 //! What a layout says of one path: the root to which it belongs, whether it is ignored, collapsed or left out of eager
 //! loading, and the constant path that a file or a directory is expected to define. It stands on the layouts of
 //! `zw_inflect`, the patterns of `zw_path` and the names of `zw_names`. It promises that each answer is exactly the
-//! definition's, and that patterns are followed along a path, so that no front of it is gone through twice.
+//! definition's.
 #![tactic(auto)]
 
 mod covered;

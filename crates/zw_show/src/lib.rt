@@ -1,7 +1,7 @@
 //! Texts of values: inspect texts, built-in texts, how a fault tells a receiver, texts in double quotes, and the lines of
 //! faults. It stands on the definitions of these in `zw_def_world`, on `zw_heap`, whose values it tells, and on `zw_lexer`,
 //! which tells whether a symbol is one token. It promises that each is exactly as defined in every world that agrees with
-//! the heap, and that a text is refused exactly where it would be longer than a text may be, as soon as it is.
+//! the heap, and that a text is refused exactly where it would be longer than a text may be.
 #![tactic(auto)]
 
 mod fault;
