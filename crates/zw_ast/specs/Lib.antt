@@ -4,3 +4,4 @@ pub mod Gives
 pub mod Named
 pub mod Operator
 pub mod Part
+pub mod Program

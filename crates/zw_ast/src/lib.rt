@@ -3,6 +3,7 @@
 //! where it would be more than 100 high; and that all names of a made node are in the maker's table.
 #![tactic(auto)]
 
+mod begin;
 mod form;
 mod grown;
 mod leaf;
@@ -10,6 +11,7 @@ mod maker;
 mod node;
 mod operator;
 mod part;
+mod program;
 mod simple;
 
 pub use grown::{Grown, MakeFault, Malformed};
@@ -17,3 +19,4 @@ pub use maker::Maker;
 pub use node::{Base, Default, MethodName, Node, Order, Part, Rescue};
 pub use operator::spell_operators;
 pub use part::{Clauses, ConstantPath, Optional, Params, RescueClause, Segment};
+pub use program::{Program, Statement};

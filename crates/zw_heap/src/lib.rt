@@ -9,6 +9,7 @@
 mod array_record;
 mod boot;
 mod core_class;
+mod count;
 mod exception;
 mod fault;
 mod heap;

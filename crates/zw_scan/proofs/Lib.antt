@@ -1,1 +1,12 @@
-pub mod FileToldLemmas
+pub mod ClaimLemmas
+pub mod AmongLemmas
+pub mod BeginningLemmas
+pub mod AboveLemmas
+pub mod RootLemmas
+pub mod DirectoryLemmas
+pub mod SharedLemmas
+pub mod ClaimDirectoryLemmas
+pub mod TableLemmas
+pub mod ExpectingLemmas
+pub mod ScanLemmas
+pub mod NameTableLemmas

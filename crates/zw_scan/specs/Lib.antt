@@ -1,2 +1,11 @@
-pub mod FileTold
-pub mod FileSeen
+pub mod Among
+pub mod Directories
+pub mod ClaimTold
+pub mod ClaimSeen
+pub mod FoundTold
+pub mod FoundSeen
+pub mod Table
+pub mod Children
+pub mod NameTable
+pub mod ChildSeen
+pub mod IsScan

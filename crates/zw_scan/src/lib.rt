@@ -3,6 +3,18 @@
 //! all names to come: each visible file, in the order of the paths, with what it is expected to define.
 #![tactic(auto)]
 
+mod children;
+mod claim;
+mod directory;
+mod found;
+mod name_table;
+mod scan;
 mod seen_file;
+mod table;
 
-pub use seen_file::{SeenFile, seen_files};
+pub use children::ChildRow;
+pub use claim::Claim;
+pub use directory::seen_directories;
+pub use found::{Found, in_order};
+pub use scan::Scan;
+pub use seen_file::seen_files;

@@ -14,3 +14,4 @@ pub mod TreeLemmas
 pub mod StageLemmas
 pub mod DistinctLemmas
 pub mod ListingLemmas
+pub mod WalkLemmas

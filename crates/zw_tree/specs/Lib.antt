@@ -2,6 +2,7 @@ pub mod Row
 pub mod Code
 pub mod Seen
 pub mod Falls
+pub mod Walk
 pub mod Text
 pub mod Edit
 pub mod Strict

@@ -16,15 +16,15 @@ pub(crate) struct Folder {
 /// A file or a directory with its name.
 #[cycle(folder)]
 #[derive(Drop)]
-struct Entry {
-    name: String,
-    node: Node,
+pub(crate) struct Entry {
+    pub(crate) name: String,
+    pub(crate) node: Node,
 }
 
 /// What a name stands for.
 #[cycle(folder)]
 #[derive(Drop)]
-enum Node {
+pub(crate) enum Node {
     File(Shared),
     Directory(Folder),
 }
@@ -86,6 +86,13 @@ impl Folder {
         ensures { result ≡ (length self.now == 0) }
     {
         self.entries.is_empty()
+    }
+
+    /// The entries, by their names.
+    pub(crate) fn entries(&self) -> &[Box<Entry>]
+        ensures { rows_seen result.now ≡ self.now }
+    {
+        self.entries.as_slice()
     }
 
     /// Where the entry of this name is, or where it would go.

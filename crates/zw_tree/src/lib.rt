@@ -16,6 +16,7 @@ mod shared;
 mod staged;
 mod trail;
 mod tree;
+mod walk;
 
 pub use directory::Directory;
 pub use entry::Entry;

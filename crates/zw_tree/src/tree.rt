@@ -1,10 +1,11 @@
 //! The tree of files.
-ghost use Rattle.std.specs.Prelude.{◌≡◌, ◌+◌, [], false, OnOk, OnErr};
+ghost use Rattle.std.specs.Prelude.{◌≡◌, ◌+◌, [], false, IfOk, OnOk, OnErr};
 ghost use Rattle.std.specs.List.{slice_get};
 ghost use Rattle.std.specs.Option.{option_map};
 ghost use Rattle.zw_tree.specs.Entries.{entries_of};
 ghost use Rattle.zw_tree.specs.EntrySeen.{entry_seen};
 ghost use Rattle.zw_def.specs.Tree.{is_in_the_way};
+ghost use Rattle.zw_def.specs.Visible.{keys_of};
 ghost use Rattle.zw_tree.specs.Strict.{IsTree};
 ghost use Rattle.zw_tree.specs.Text.{text_at};
 ghost use Rattle.zw_tree.specs.Edit.{is_blocked, tree_with, without_file};
@@ -32,12 +33,13 @@ impl Model for Tree {
     ghost use Rattle.zw_def.specs.Tree.{Tree as Files};
     ghost use Rattle.zw_tree.specs.Row.{told};
     ghost use Rattle.zw_tree.specs.Sound.{IsSound};
+    ghost use Rattle.zw_tree.specs.Strict.{ArePaths};
 
     ghost Value = { Files };
 
     ghost view = { λ t. told t.top };
 
-    ghost invariant = { λ t. IsSound t.top };
+    ghost invariant = { λ t. IsSound t.top × ArePaths (told t.top) };
 }
 
 impl Tree {
@@ -117,8 +119,15 @@ impl Tree {
         }
     }
 
+    /// The paths of all files, in path order.
+    pub fn paths(&self, alloc: Global) -> Result<Vec<Path>, AllocError>
+        ensures { IfOk result (λ paths. paths.items ≡ keys_of self.now) }
+    {
+        self.top.paths(alloc)
+    }
+
     /// The paths rise, and none stands below another.
-    pub(crate) fn is_tree(&self)
+    pub fn is_tree(&self)
         ensures { IsTree self.now }
     {
         let _ = &self.top;

@@ -1,0 +1,10 @@
+pub mod ListLemmas
+pub mod TableLemmas
+pub mod HeightLemmas
+pub mod ListedLemmas
+pub mod AncestorLemmas
+pub mod OwnLineLemmas
+pub mod ClassLemmas
+pub mod ToldLemmas
+pub mod LookUpLemmas
+pub mod ReachLemmas

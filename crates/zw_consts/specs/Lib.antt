@@ -1,0 +1,4 @@
+pub mod Table
+pub mod Ancestor
+pub mod Line
+pub mod LookUp

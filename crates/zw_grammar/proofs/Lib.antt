@@ -1,0 +1,4 @@
+pub mod NamedLemmas
+pub mod UpdateLemmas
+pub mod PartLemmas
+pub mod DepthLemmas

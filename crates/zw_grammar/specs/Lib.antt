@@ -1,0 +1,4 @@
+pub mod Variable
+pub mod Part
+pub mod Bodies
+pub mod ReadsAs

@@ -1,0 +1,5 @@
+pub mod Expected
+pub mod Order
+pub mod BootSeen
+pub mod KeySeen
+pub mod ShadowSeen

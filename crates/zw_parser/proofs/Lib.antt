@@ -1,0 +1,3 @@
+pub mod ParsedLemmas
+pub mod NamedLemmas
+pub mod HeldLemmas

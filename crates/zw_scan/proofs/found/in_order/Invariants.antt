@@ -1,0 +1,12 @@
+use Rattle.std.proofs.Common.{◌≡◌, List, map, take, filter_map}
+use Rattle.std.specs.List.{All}
+use Rattle.zw_def.specs.Text.{Text}
+use Rattle.zw_scan.specs.FoundTold.{found_told}
+use Rattle.zw_scan.specs.FoundSeen.{IsFoundNamed, found_seen}
+use Rattle.zw_scan.specs.ClaimSeen.{IsNamed, claim_seen}
+use Rattle.zw_scan.proofs.found.in_order.Given as goal
+
+abbrev pub invariant-loop-claim : goal.invariant-loop-claim
+invariant-loop-claim l =
+    ((names : List Text) → map (found_seen names) l.all.items ≡ filter_map found_told (map (claim_seen names) (take l.claim-index l.claims)))
+    × ((names : List Text) → All (IsNamed names) l.claims → All (IsFoundNamed names) l.all.items)

@@ -1,0 +1,6 @@
+//! Tests of the rows of files, through the public calls. They stand apart from the crate, so that it is not proved a
+//! second time for them.
+#![tactic(auto)]
+
+#[cfg(test)]
+mod seen_files;

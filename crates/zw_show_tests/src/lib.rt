@@ -1,0 +1,12 @@
+//! Tests of the texts of values through their public calls, a module for each kind. They stand apart from the crate, so
+//! that no crate is proved a second time for its tests. The expected texts were written down by hand.
+#![tactic(auto)]
+
+#[cfg(test)]
+mod quote;
+#[cfg(test)]
+mod receiver;
+#[cfg(test)]
+mod symbol;
+#[cfg(test)]
+mod value;
