@@ -22,6 +22,7 @@ use Rattle.zw_inflect.specs.declared.layout.Layout.{Layout}
 use Rattle.zw_inflect.specs.declared.layout.Root.{Root}
 use Rattle.zw_inflect.specs.Layout.{layout_seen, root_seen}
 use Rattle.zw_layout.specs.declared.expected.WrongName.{WrongName}
+use Rattle.zw_layout.specs.Above.{namespace_above}
 use Rattle.zw_layout.specs.Deepest.{deepest}
 use Rattle.zw_layout.proofs.DeepestLemmas.{deepest_seen, deepest_among}
 use Rattle.zw_layout.specs.Expects.{Tells, ExpectsAny, AreNamespacesNamed, IsWrongAt}
@@ -102,6 +103,9 @@ file_below layout root path is = ap (option_map (λ r. expected_of_file layout r
 pub directory_below : (layout : defined.Layout) (root : defined.Root) (path : Path) → Some root ≡ defined.root_of layout path → directory_path layout path ≡ Some (namespace_of layout root path)
 directory_below layout root path is = ap (option_map (λ r. namespace_of layout r path)) (sym is)
 
+pub namespace_below : (layout : defined.Layout) (root : defined.Root) (path : Path) → Some root ≡ defined.root_of layout path → namespace_above layout path ≡ Some (namespace_of layout root (parent_of path))
+namespace_below layout root path is = ap (option_map (λ r. namespace_of layout r (parent_of path))) (sym is)
+
 -- the names of the directory are told before that of the file is made
 pub file_named : (old new : List Text) (layout : Layout) (root : Root) (path : Path) (n : ℕ) (p : ConstantPath) → OnlyGrows old new → AreNamed old root.namespace → n + 1 ≡ length path
     → namespace_of (layout_seen old layout) (root_seen old root) (take n path) ≡ Ok p → expected_of_file (layout_seen new layout) (root_seen new root) path ≡ named (layout_seen new layout) (base_of path) path p
@@ -148,6 +152,10 @@ file_later old new layout path grows named_all =
 pub directory_later : (old new : List Text) (layout : Layout) (path : Path) → OnlyGrows old new → AreNamespacesNamed old layout → directory_path (layout_seen new layout) path ≡ directory_path (layout_seen old layout) path
 directory_later old new layout path grows named_all =
     of_root old new layout path (λ l root. namespace_of l root path) (λ root n. namespace_later old new layout root path grows n) named_all
+
+pub above_later : (old new : List Text) (layout : Layout) (path : Path) → OnlyGrows old new → AreNamespacesNamed old layout → namespace_above (layout_seen new layout) path ≡ namespace_above (layout_seen old layout) path
+above_later old new layout path grows named_all =
+    of_root old new layout path (λ l root. namespace_of l root (parent_of path)) (λ root n. namespace_later old new layout root (parent_of path) grows n) named_all
 
 pub namespaces_grown : (old new : List Text) (layout : Layout) → OnlyGrows old new → AreNamespacesNamed old layout → AreNamespacesNamed new layout
 namespaces_grown old new layout grows named_all k root lt = AreNamed-grown old new _ grows (named_all k root lt)

@@ -1,3 +1,4 @@
 pub mod Progress
 pub mod Deepest
 pub mod Expects
+pub mod Above

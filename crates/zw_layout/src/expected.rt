@@ -4,6 +4,7 @@ ghost use Rattle.zw_def.specs.Text.{Text};
 ghost use Rattle.zw_def.specs.Names.{AreNamed, OnlyGrows, texts_of};
 ghost use Rattle.zw_def.specs.Expected as defined;
 ghost use Rattle.zw_inflect.specs.Layout.{root_seen, layout_seen};
+ghost use Rattle.zw_layout.specs.Above.{namespace_above};
 ghost use Rattle.zw_layout.specs.Progress.{progress_of};
 ghost use Rattle.zw_layout.specs.Expects.{AreNamespacesNamed, Expects, ExpectsAny, Extends, IsWrongAt};
 
@@ -166,4 +167,25 @@ pub fn directory_path(
     };
     let end = directory.components().len();
     Ok(Some(namespace_at(alloc, layout, names, root, directory, end)?))
+}
+
+/// The namespace in which a file or directory stands, if it stands below a root: that of the files of the directory
+/// above it.
+pub fn namespace_above(
+    alloc: Global,
+    layout: &Layout,
+    names: &mut Names,
+    path: &Path,
+) -> Result<Option<CPath>, ExpectFault>
+    requires { AreNamespacesNamed names.old layout.now }
+    ensures told { (later : List Text) → OnlyGrows names.new later →
+        ExpectsAny later result (namespace_above (layout_seen later layout.now) path.now) }
+    ensures named { IfOk result (λ p. IfSome p (AreNamed names.new)) }
+    ensures grows { OnlyGrows names.old names.new }
+{
+    let Some(root) = root_of(layout, path) else {
+        return Ok(None);
+    };
+    let end = path.components().len() - 1;
+    Ok(Some(namespace_at(alloc, layout, names, root, path, end)?))
 }

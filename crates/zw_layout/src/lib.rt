@@ -11,7 +11,7 @@ mod progress;
 mod roots;
 
 pub use covered::{is_collapsed, is_ignored, is_not_eager, is_visible};
-pub use expected::{ExpectFault, WrongName, directory_path, expected_path};
+pub use expected::{ExpectFault, WrongName, directory_path, expected_path, namespace_above};
 pub use named::are_namespaces_named;
 pub use progress::Progress;
 pub use roots::{belongs_to, is_root, root_at, root_of};

@@ -23,6 +23,8 @@ pub(crate) struct Case {
     pub(crate) shadows: &'static [&'static str],
     /// The children of `Object`.
     pub(crate) children: &'static [&'static str],
+    /// Namespaces, and the path up to the first wrong name directly below each.
+    pub(crate) wrong: &'static [(&'static str, &'static str)],
     /// Paths, and what a file there is expected to define.
     pub(crate) expect: &'static [(&'static str, &'static str)],
 }
@@ -39,6 +41,7 @@ pub(crate) const PLAIN: Case = Case {
     map: &[],
     shadows: &[],
     children: &[],
+    wrong: &[],
     expect: &[],
 };
 

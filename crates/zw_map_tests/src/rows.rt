@@ -2,7 +2,7 @@
 ghost use Rattle.zw_scan.specs.IsScan.{IsScanNamed};
 
 use crate::case::{Case, PLAIN, boot, layout, tree};
-use crate::shown::{child_line, expected_line, key_line, shadow_line};
+use crate::shown::{child_line, expected_line, key_line, shadow_line, wrong_line};
 use std::alloc::Global;
 use std::process::Abort;
 use std::test::Fail;
@@ -103,7 +103,35 @@ const CASES: &[Case] = &[
         files: &["m/1st.rb", "m/admin/1st.rb", "m/admin/user.rb"],
         map: &["Admin dir m/admin", "Admin::User m/admin/user.rb"],
         children: &["Admin | m/admin |"],
+        wrong: &[
+            ("Object", "m/1st.rb"),
+            ("Admin", "m/admin/1st.rb"),
+            ("Admin::User", "none"),
+        ],
         expect: &[("m/1st.rb", "wrong 1st"), ("m/admin/1st.rb", "wrong 1st")],
+        ..PLAIN
+    },
+    // The first wrong name in root order, and then in path order, files and directories alike. A root without files is
+    // not refused. What stands in a directory with a wrong name stands in no namespace.
+    Case {
+        roots: &[("o", "Object"), ("n", "Object"), ("m", "Object"), ("k", "Admin")],
+        collapse: &["m/admin/parts"],
+        files: &[
+            "k/4th.rb",
+            "m/1st.rb",
+            "m/admin/parts/3rd.rb",
+            "m/admin/user.rb",
+            "n/2nd/x.rb",
+            "n/3rd.rb",
+        ],
+        map: &["Admin dir m/admin", "Admin::User m/admin/user.rb"],
+        children: &["Admin | m/admin |"],
+        wrong: &[
+            ("Object", "n/2nd"),
+            ("Admin", "m/admin/parts/3rd.rb"),
+            ("Admin::User", "none"),
+        ],
+        expect: &[("n/2nd/x.rb", "wrong 2nd")],
         ..PLAIN
     },
     // The version file of a gem.
@@ -220,13 +248,26 @@ fn try_children(
     names: &Names,
     case: &Case,
 ) -> Result<(), Fail> {
-    let rows = scan.child_rows(alloc, &CPath::object(alloc))?;
+    let rows = scan.children(alloc, &CPath::object(alloc))?.rows;
     assert_eq!(rt; rows.len(), case.children.len());
     for place in 0..rows.len() {
         assert!(rt; rows[place].name.0 < names.len());
         let line = child_line(alloc, names.text(rows[place].name), &rows[place])?;
         assert!(rt; line.as_str() == case.children[place], "{line}");
     }
+    Ok(())
+}
+
+fn try_wrong(
+    rt: &impl Abort,
+    alloc: Global,
+    scan: &Scan,
+    names: &mut Names,
+    row: (&str, &str),
+) -> Result<(), Fail> {
+    let namespace = CPath::parse(alloc, names, row.0)?;
+    let line = wrong_line(alloc, scan.children(alloc, &namespace)?.wrong)?;
+    assert!(rt; line.as_str() == row.1, "{line}");
     Ok(())
 }
 
@@ -256,6 +297,9 @@ fn try_case(rt: &impl Abort, alloc: Global, case: &Case) -> Result<(), Fail> {
     try_keys(rt, alloc, &scan, &boot, &names, case)?;
     try_shadows(rt, alloc, &scan, &boot, &names, case)?;
     try_children(rt, alloc, &scan, &names, case)?;
+    for row in case.wrong {
+        try_wrong(rt, alloc, &scan, &mut names, *row)?;
+    }
     for row in case.expect {
         try_expected(rt, alloc, &layout, &scan, &mut names, *row)?;
     }

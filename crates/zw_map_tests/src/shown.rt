@@ -59,6 +59,13 @@ pub(crate) fn child_line(alloc: Global, name: &str, row: &ChildRow) -> Result<St
     Ok(text)
 }
 
+pub(crate) fn wrong_line(alloc: Global, wrong: Option<Path>) -> Result<String, AllocError> {
+    match wrong {
+        Some(path) => path.text(alloc),
+        None => String::from_str(alloc, "none"),
+    }
+}
+
 pub(crate) fn expected_line(
     alloc: Global,
     names: &Names,

@@ -10,3 +10,5 @@ pub mod TableLemmas
 pub mod ExpectingLemmas
 pub mod ScanLemmas
 pub mod NameTableLemmas
+pub mod FirstLemmas
+pub mod WrongLemmas

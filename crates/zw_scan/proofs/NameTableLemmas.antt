@@ -27,17 +27,17 @@ use Rattle.zw_scan.proofs.TableLemmas.{same_numbers-true, key_cmp, is_key_of, lo
 
 -- ---- what is kept, where h tells it
 
-module _ {V Y : Type 0} (h : V → List Y) where
-  abbrev pub told_at : List ℕ → List (Vec ℕ × V) → List Y
-  told_at q es = option_map_or h (lookup (is_key_of q) es) []
+module _ {V Z : Type 0} (h : V → Z) (none : Z) where
+  abbrev pub told_at : List ℕ → List (Vec ℕ × V) → Z
+  told_at q es = option_map_or h (lookup (is_key_of q) es) none
 
   pub told_others : (es es' : List (Vec ℕ × V)) (p q : List ℕ) → es' ≡ remove_entry (λ (k : Vec ℕ). same_numbers p k.items) es → same_numbers q p ≡ false → told_at q es' ≡ told_at q es
-  told_others es es' p q is other = ap (told_at q) is ∙ ap (λ o. option_map_or h o []) (lookup-remove q es p other)
+  told_others es es' p q is other = ap (told_at q) is ∙ ap (λ o. option_map_or h o none) (lookup-remove q es p other)
 
-  pub told_added : (old es es' : List (Vec ℕ × V)) (p q : List ℕ) (k : Vec ℕ) (v : V) (g : List Y → List Y) → es' ≡ insert_entry key_cmp es k v → k.items ≡ p → h v ≡ g (told_at p old) → ((r : List ℕ) → same_numbers r p ≡ false → told_at r es ≡ told_at r old) → told_at q es' ≡ cond (same_numbers q p) (g (told_at q old)) (told_at q old)
+  pub told_added : (old es es' : List (Vec ℕ × V)) (p q : List ℕ) (k : Vec ℕ) (v : V) (g : Z → Z) → es' ≡ insert_entry key_cmp es k v → k.items ≡ p → h v ≡ g (told_at p old) → ((r : List ℕ) → same_numbers r p ≡ false → told_at r es ≡ told_at r old) → told_at q es' ≡ cond (same_numbers q p) (g (told_at q old)) (told_at q old)
   told_added old es es' p q k v g is key value others =
-      ap (told_at q) is ∙ ap (λ o. option_map_or h o []) (lookup-insert q es k v ∙ ap (λ l. cond (same_numbers q l) (Some v) (lookup (is_key_of q) es)) key) ∙ by (same_numbers q p) refl where
-        by : (b : Bool) → same_numbers q p ≡ b → option_map_or h (cond b (Some v) (lookup (is_key_of q) es)) [] ≡ cond b (g (told_at q old)) (told_at q old)
+      ap (told_at q) is ∙ ap (λ o. option_map_or h o none) (lookup-insert q es k v ∙ ap (λ l. cond (same_numbers q l) (Some v) (lookup (is_key_of q) es)) key) ∙ by (same_numbers q p) refl where
+        by : (b : Bool) → same_numbers q p ≡ b → option_map_or h (cond b (Some v) (lookup (is_key_of q) es)) none ≡ cond b (g (told_at q old)) (told_at q old)
         by true e = value ∙ ap (λ l. g (told_at l old)) (sym (same_numbers-true q p e))
         by false e = others q e
 

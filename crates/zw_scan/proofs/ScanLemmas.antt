@@ -69,7 +69,7 @@ any_more path xs i x p lt is =
 
 -- ---- names that are made later
 
-found_later : (old new : List Text) → OnlyGrows old new → (found : List Found) → All (IsFoundNamed old) found → All (IsFoundNamed new) found
+pub found_later : (old new : List Text) → OnlyGrows old new → (found : List Found) → All (IsFoundNamed old) found → All (IsFoundNamed new) found
 found_later old new grows found all k f lt = AreNamed-grown old new (get_or found k f).names grows (all k f lt)
 
 pub named_later : (old new : List Text) → OnlyGrows old new → (scan : Scan) → IsScanNamed old scan → IsScanNamed new scan

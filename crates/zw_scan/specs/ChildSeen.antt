@@ -7,8 +7,10 @@ use Rattle.zw_def.specs.Layout.{Layout}
 use Rattle.zw_def.specs.Names.{text_of, texts_of}
 use Rattle.zw_def.specs.Map.{names_of, expecting_files, expecting_directories}
 use Rattle.zw_names.specs.declared.names.Name.{Name}
+use Rattle.zw_scan.specs.Children as told
 use Rattle.zw_scan.specs.Children.{Child, names_below}
 use Rattle.zw_scan.specs.declared.children.ChildRow.{ChildRow}
+use Rattle.zw_scan.specs.declared.children.Children.{Children}
 
 abbrev pub child_seen : List Text → ChildRow → Child
 child_seen names row = record {
@@ -16,6 +18,12 @@ child_seen names row = record {
   winner = row.winner;
   directories = row.directories.items;
   shadowed = row.shadowed.items;
+}
+
+abbrev pub children_seen : List Text → Children → told.Children
+children_seen names children = record {
+  rows = map (child_seen names) children.rows.items;
+  wrong = children.wrong;
 }
 
 -- these are the names directly below the path

@@ -1,5 +1,5 @@
 -- What stands directly below a constant path.
-use Rattle.std.specs.Prelude.{List, [], ◌∷◌, ◌++◌, map, filter_map, drop, if◌then◌else◌, Option, Some, None}
+use Rattle.std.specs.Prelude.{List, [], ◌∷◌, ◌++◌, map, filter_map, drop, if◌then◌else◌, Option, Some, None, option_map}
 use Rattle.std.specs.List.{fold}
 use Rattle.std.specs.Option.{option_map_or}
 use Rattle.std.specs.Ordering.{nat_cmp, is_lt}
@@ -11,6 +11,7 @@ use Rattle.zw_def.specs.Tree.{Tree}
 use Rattle.zw_def.specs.Layout.{Layout}
 use Rattle.zw_def.specs.ConstantPath.{ConstantPath}
 use Rattle.zw_def.specs.Nesting.{child}
+use Rattle.zw_def.specs.Wrong.{wrong_below}
 use Rattle.zw_def.specs.Map.{Expecting, all_expecting, paths_of, names_of, expecting_files, expecting_directories}
 
 -- the last name of a path that is a child of the first
@@ -51,10 +52,21 @@ child_of files directories p n =
     child_with n (paths_of (all_expecting (child p n) files)) (paths_of (all_expecting (child p n) directories))
 
 -- in byte order of names
-abbrev pub children_of : Layout → Tree → ConstantPath → List Child
-children_of layout tree p =
+abbrev pub rows_of : Layout → Tree → ConstantPath → List Child
+rows_of layout tree p =
     map (child_of (expecting_files layout tree) (expecting_directories layout tree) p)
     (names_below p (names_of (expecting_files layout tree) ++ names_of (expecting_directories layout tree)))
+
+-- the path up to the first wrong name directly below the path
+abbrev pub wrong_of : Layout → Tree → ConstantPath → Option Path
+wrong_of layout tree p = option_map (λ w. w.path) (wrong_below layout tree p)
+
+pub record Children : Type 0 where
+  pub rows : List Child
+  pub wrong : Option Path
+
+abbrev pub children_of : Layout → Tree → ConstantPath → Children
+children_of layout tree p = record { rows = rows_of layout tree p; wrong = wrong_of layout tree p }
 
 -- the names of the children, with that of one more path
 abbrev pub below_more : ConstantPath → List Text → ConstantPath → List Text

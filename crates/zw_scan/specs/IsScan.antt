@@ -1,5 +1,5 @@
 -- What a scan of a tree keeps.
-use Rattle.std.specs.Prelude.{◌≡◌, ℕ, List, ◌++◌, map}
+use Rattle.std.specs.Prelude.{◌≡◌, ℕ, List, ◌++◌, map, option_map}
 use Rattle.std.specs.List.{list_any, All}
 use Rattle.std.specs.BTreeSet.{contains}
 use Rattle.zw_def.specs.Text.{Text}
@@ -13,8 +13,10 @@ use Rattle.zw_scan.specs.ClaimTold.{files_told}
 use Rattle.zw_scan.specs.ClaimSeen.{IsNamed, claim_seen}
 use Rattle.zw_scan.specs.FoundSeen.{IsFoundNamed, found_seen}
 use Rattle.zw_scan.specs.Table.{paths_at, paths_found}
-use Rattle.zw_scan.specs.Children.{names_below}
+use Rattle.zw_scan.specs.Children.{names_below, wrong_of}
 use Rattle.zw_scan.specs.NameTable.{AreEntries, texts_at}
+use Rattle.zw_scan.specs.WrongTable.{first_at}
+use Rattle.zw_scan.specs.declared.wrong.WrongTable.{WrongTable}
 use Rattle.zw_scan.specs.declared.scan.Scan.{Scan}
 
 -- the names of the scan are among these
@@ -22,6 +24,11 @@ pub record IsScanNamed (names : List Text) (scan : Scan) : Type 0 where
   pub claims : All (IsNamed names) scan.claims.items
   pub files : All (IsFoundNamed names) scan.files.items
   pub directories : All (IsFoundNamed names) scan.directories.items
+
+-- the first wrong names of the tree directly below each namespace
+abbrev pub AreFirst : List Text → Layout → Tree → WrongTable → Type 0
+AreFirst names layout tree table =
+    IsDistinct names → (q : List ℕ) → AreNamed names q → option_map (λ f. f.path) (first_at q table) ≡ wrong_of layout tree (texts_of names q)
 
 -- the scan is that of the tree under the layout, where the names have these texts
 pub record IsScan (names : List Text) (layout : Layout) (tree : Tree) (scan : Scan) : Type 0 where
@@ -34,3 +41,4 @@ pub record IsScan (names : List Text) (layout : Layout) (tree : Tree) (scan : Sc
   pub by_directory : (q : List ℕ) → paths_at q scan.directories_at ≡ paths_found q scan.directories.items
   pub below : IsDistinct names → (q : List ℕ) → AreNamed names q → texts_at q scan.below ≡ names_below (texts_of names q) (names_of (expecting_files layout tree) ++ names_of (expecting_directories layout tree))
   pub entries : AreEntries names scan.below
+  pub wrong : AreFirst names layout tree scan.wrong

@@ -7,5 +7,7 @@ pub mod FoundSeen
 pub mod Table
 pub mod Children
 pub mod NameTable
+pub mod Wrong
+pub mod WrongTable
 pub mod ChildSeen
 pub mod IsScan

@@ -6,8 +6,8 @@ ghost use Rattle.zw_def.specs.Tree.{Tree as Files};
 ghost use Rattle.zw_def.specs.Layout.{Layout as Shown};
 ghost use Rattle.zw_def.specs.Names.{AreNamed, IsDistinct, text_of, texts_of};
 ghost use Rattle.zw_def.specs.Map.{expecting_directories, expecting_files};
-ghost use Rattle.zw_scan.specs.Children.{child_of, child_with, children_of, first_of};
-ghost use Rattle.zw_scan.specs.ChildSeen.{child_seen};
+ghost use Rattle.zw_scan.specs.Children.{child_of, child_with, children_of, first_of, rows_of};
+ghost use Rattle.zw_scan.specs.ChildSeen.{child_seen, children_seen};
 ghost use Rattle.zw_scan.specs.IsScan.{IsScan};
 
 use crate::scan::Scan;
@@ -26,6 +26,15 @@ pub struct ChildRow {
     pub directories: Vec<Path>,
     /// The other files that are expected to define it, in root order and then in path order.
     pub shadowed: Vec<Path>,
+}
+
+/// What stands directly below a constant path.
+#[derive(Drop)]
+pub struct Children {
+    /// The children, in byte order of names.
+    pub rows: Vec<ChildRow>,
+    /// The path up to the first wrong name there, in root order and then in path order.
+    pub wrong: Option<Path>,
 }
 
 fn first_copy(alloc: Global, paths: &[Path]) -> Result<Option<Path>, AllocError>
@@ -69,17 +78,27 @@ impl Scan {
         })
     }
 
-    /// What stands directly below the constant path, in byte order of names: for each child the file that wins, the
-    /// directories, and the files that are shadowed. The scan knows nothing of boot.
-    pub fn child_rows(&self, alloc: Global, path: &CPath) -> Result<Vec<ChildRow>, AllocError>
+    /// For each child of the constant path the file that wins, the directories, and the files that are shadowed.
+    fn child_rows(&self, alloc: Global, path: &CPath) -> Result<Vec<ChildRow>, AllocError>
         ensures { IfOk result (λ rows. (names : List Text) (layout : Shown) (tree : Files) →
             IsScan names layout tree self.now → IsDistinct names → AreNamed names path.now →
-            map (child_seen names) rows.items ≡ children_of layout tree (texts_of names path.now)) }
+            map (child_seen names) rows.items ≡ rows_of layout tree (texts_of names path.now)) }
     {
         let mut rows = Vec::new(alloc);
         for name in &self.names_below(alloc, path)? {
             rows.push(self.child_row(alloc, path, *name)?)?;
         }
         Ok(rows)
+    }
+
+    /// What stands directly below the constant path. The scan knows nothing of boot.
+    pub fn children(&self, alloc: Global, path: &CPath) -> Result<Children, AllocError>
+        ensures { IfOk result (λ children. (names : List Text) (layout : Shown) (tree : Files) →
+            IsScan names layout tree self.now → IsDistinct names → AreNamed names path.now →
+            children_seen names children ≡ children_of layout tree (texts_of names path.now)) }
+    {
+        let rows = self.child_rows(alloc, path)?;
+        let wrong = self.wrong_below(alloc, path)?;
+        Ok(Children { rows, wrong })
     }
 }

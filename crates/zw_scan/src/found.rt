@@ -57,7 +57,8 @@ fn own_found(
     }
 }
 
-fn push_some(all: &mut Vec<Found>, found: Option<Found>) -> Result<(), AllocError>
+/// Adds what was found, if anything was.
+pub(crate) fn push_some(all: &mut Vec<Found>, found: Option<Found>) -> Result<(), AllocError>
     ensures { OnOk result (all.new.items ≡ all.old.items ++ cons_option found []) }
 {
     if let Some(found) = found {

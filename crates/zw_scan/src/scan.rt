@@ -14,8 +14,9 @@ ghost use Rattle.zw_layout.specs.Expects.{AreNamespacesNamed};
 ghost use Rattle.zw_scan.specs.ClaimTold.{directories_told, files_told};
 ghost use Rattle.zw_scan.specs.ClaimSeen.{IsNamed, claim_seen};
 ghost use Rattle.zw_scan.specs.FoundSeen.{IsFoundNamed, found_seen};
+ghost use Rattle.zw_scan.specs.Children.{wrong_of};
 ghost use Rattle.zw_scan.specs.ChildSeen.{AreBelow};
-ghost use Rattle.zw_scan.specs.IsScan.{IsScan, IsScanNamed};
+ghost use Rattle.zw_scan.specs.IsScan.{AreFirst, IsScan, IsScanNamed};
 
 use crate::claim::Claim;
 use crate::directory::seen_directories;
@@ -23,6 +24,7 @@ use crate::found::{Found, in_order, in_root_order};
 use crate::name_table::NameTable;
 use crate::seen_file::seen_files;
 use crate::table::PathTable;
+use crate::wrong::WrongTable;
 use std::alloc::{AllocError, Global};
 use std::collections::BTreeSet;
 use zw_inflect::Layout;
@@ -41,6 +43,7 @@ pub struct Scan {
     files_at: PathTable,
     directories_at: PathTable,
     below: NameTable,
+    wrong: WrongTable,
 }
 
 /// The paths of the claims.
@@ -73,7 +76,8 @@ impl Scan {
         let paths = tree.paths(alloc)?;
         let claims = seen_files(alloc, layout, names, paths.as_slice())?;
         let above = seen_directories(alloc, layout, names, claims.as_slice())?;
-        Scan::of(alloc, layout, names, claims, &above)
+        let wrong = WrongTable::of(alloc, layout, names, &claims, &above)?;
+        Scan::of(alloc, layout, names, claims, &above, wrong)
     }
 
     /// The scan of these files and directories.
@@ -83,12 +87,14 @@ impl Scan {
         names: &Names,
         claims: Vec<Claim>,
         above: &[Claim],
+        wrong: WrongTable,
     ) -> Result<Scan, AllocError>
         requires claims { All (IsNamed names.now) claims.items }
         requires above { All (IsNamed names.now) above.now }
         ensures told { IfOk result (λ scan. (later : List Text) (tree : Files) → OnlyGrows names.now later →
             map (claim_seen later) claims.items ≡ files_told (layout_seen later layout.now) (keys_of tree) →
             map (claim_seen later) above.now ≡ directories_told (layout_seen later layout.now) tree →
+            AreFirst later (layout_seen later layout.now) tree wrong →
             IsScan later (layout_seen later layout.now) tree scan) }
         ensures named { IfOk result (IsScanNamed names.now) }
     {
@@ -106,6 +112,7 @@ impl Scan {
             files_at,
             directories_at,
             below,
+            wrong,
         })
     }
 
@@ -116,6 +123,15 @@ impl Scan {
             AreBelow names layout tree path.now below.items) }
     {
         self.below.at(alloc, path)
+    }
+
+    /// The path up to the first wrong name directly below the constant path, in root order and then in path order.
+    pub(crate) fn wrong_below(&self, alloc: Global, path: &CPath) -> Result<Option<Path>, AllocError>
+        ensures { IfOk result (λ wrong. (names : List Text) (layout : Shown) (tree : Files) →
+            IsScan names layout tree self.now → IsDistinct names → AreNamed names path.now →
+            wrong ≡ wrong_of layout tree (texts_of names path.now)) }
+    {
+        self.wrong.at(alloc, path)
     }
 
     /// Whether the path is that of a visible file of the tree.

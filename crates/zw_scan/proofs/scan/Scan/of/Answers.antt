@@ -26,7 +26,7 @@ returns-clause-named c =
     }
 
 pub returns-clause-told : goal.returns-clause-told
-returns-clause-told c names tree grows told above_told =
+returns-clause-told c names tree grows told above_told first =
     let layout = layout_seen names c.args.layout.now in
     let files = c.in_ok-files.ensures.told names ∙ ap (λ cs. own_all layout (map (claim_seen names) cs)) c.deref-2.ensures.value ∙ ap (own_all layout) told ∙ files_found layout tree in
     let directories = c.in_ok-directories.ensures.told names ∙ ap (filter_map found_told) above_told ∙ directories_found layout tree in
@@ -44,4 +44,5 @@ returns-clause-told c names tree grows told above_told =
           ((ap (map (λ f. texts_of names f.names)) c.deref-5.ensures.value ∙ names_found names c.in_ok-files.files.items ∙ ap names_of files) i
           ++ (ap (map (λ f. texts_of names f.names)) c.deref-6.ensures.value ∙ names_found names c.in_ok-directories.directories.items ∙ ap names_of directories) i));
       entries = entries_later c.args.names.now names grows c.in_ok-below.below c.in_ok-below.ensures.entries;
+      wrong = first;
     }
