@@ -18,6 +18,7 @@ use std::alloc::AllocError;
 use zw_names::Name;
 
 impl<'t> Maker<'t> {
+    #[inline(never)]
     fn rescues(&self, clauses: Vec<RescueClause>) -> Result<Grown<Items<Rescue<Node>>>, AllocError>
         ensures told { IfOk result
             (λ g. c.rescues_of (map (clause_seen self.now.names.now) clauses.items) ≡
@@ -43,6 +44,7 @@ impl<'t> Maker<'t> {
         })
     }
 
+    #[inline(never)]
     fn defaults(&self, optional: Vec<Optional>) -> Result<Grown<Items<Default<Node>>>, AllocError>
         ensures told { IfOk result
             (λ g. c.defaults_of (map (optional_seen self.now.names.now) optional.items) ≡
@@ -65,6 +67,7 @@ impl<'t> Maker<'t> {
         })
     }
 
+    #[inline(never)]
     fn branch(
         &self,
         branch: Option<Vec<Grown<Node>>>,
@@ -90,6 +93,7 @@ impl<'t> Maker<'t> {
     }
 
     /// A body with clauses (11.5.2.5).
+    #[inline(never)]
     pub fn clauses(&self, clauses: Clauses) -> Result<Grown<Node>, MakeFault>
         requires named { clauses_names clauses ≤ length self.now.names.now }
         ensures told { Gives (grown_seen self.now.names.now)
@@ -111,6 +115,7 @@ impl<'t> Maker<'t> {
         )
     }
 
+    #[inline(never)]
     fn parts(
         &self,
         segments: Vec<Segment>,
@@ -138,6 +143,7 @@ impl<'t> Maker<'t> {
     }
 
     /// A text with interpolations: each with the text before it, and the last text (8.7.6.3).
+    #[inline(never)]
     pub fn interpolation(
         &self,
         segments: Vec<Segment>,
@@ -168,6 +174,7 @@ impl<'t> Maker<'t> {
     }
 
     // The statements of a method, or one node with its clauses.
+    #[inline(never)]
     fn method_body(&self, clauses: Clauses) -> Result<Grown<Items<Node>>, MakeFault>
         requires named { clauses_names clauses ≤ length self.now.names.now }
         ensures told { Gives (row_seen self.now.names.now)
@@ -187,6 +194,7 @@ impl<'t> Maker<'t> {
     }
 
     /// A method, of `self` or not (13.3.1 and 13.4.3).
+    #[inline(never)]
     pub fn method(
         &self,
         on_self: bool,
@@ -213,6 +221,7 @@ impl<'t> Maker<'t> {
         }
     }
 
+    #[inline(never)]
     fn boxed(&self, node: Option<Grown<Node>>) -> Result<Grown<Option<Boxed<Node>>>, AllocError>
         ensures told { IfOk result
             (λ g. superclass_seen self.now.names.now node ≡ perhaps_row_seen self.now.names.now g) }
@@ -231,6 +240,7 @@ impl<'t> Maker<'t> {
     }
 
     /// A class, with its superclass where one is given (13.2.2).
+    #[inline(never)]
     pub fn class(
         &self,
         path: ConstantPath,
@@ -254,6 +264,7 @@ impl<'t> Maker<'t> {
     }
 
     /// A module (13.1.2).
+    #[inline(never)]
     pub fn module(
         &self,
         path: ConstantPath,

@@ -1,6 +1,7 @@
 //! Syntax trees. It stands on the trees of `zw_def_syntax` and on the names of `zw_names`. It promises that each made
 //! node stands for the node of the definition over what its parts stand for, with its height, or is refused exactly
-//! where it would be more than 100 high; and that all names of a made node are in the maker's table.
+//! where it would be more than 100 high; and that all names of a made node are in the maker's table. What a maker moves
+//! about is no part of its caller's frame (`inline(never)`), since makers are called from within nested forms.
 #![tactic(auto)]
 
 mod begin;

@@ -48,6 +48,7 @@ impl<'t> Maker<'t> {
     }
 
     /// Nodes in a row, as high as the highest of them.
+    #[inline(never)]
     pub(crate) fn row(&self, all: Vec<Grown<Node>>) -> Result<Grown<Items<Node>>, AllocError>
         ensures told { IfOk result
             (λ row. t.row_of (all_seen self.now.names.now all.items) ≡ row_seen self.now.names.now row) }

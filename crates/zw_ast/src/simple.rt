@@ -16,6 +16,7 @@ use zw_names::Name;
 
 impl<'t> Maker<'t> {
     /// `x = e` (11.4.2).
+    #[inline(never)]
     pub fn set_local(&self, name: Name, value: Grown<Node>) -> Result<Grown<Node>, MakeFault>
         requires name { IsName self.now.names.now name }
         requires value { IsNamed self.now.names.now value }
@@ -32,6 +33,7 @@ impl<'t> Maker<'t> {
     }
 
     /// `@x = e`.
+    #[inline(never)]
     pub fn set_instance_variable(
         &self,
         name: Name,
@@ -52,6 +54,7 @@ impl<'t> Maker<'t> {
     }
 
     /// `@@x = e`.
+    #[inline(never)]
     pub fn set_class_variable(
         &self,
         name: Name,
@@ -72,6 +75,7 @@ impl<'t> Maker<'t> {
     }
 
     /// `N = e`.
+    #[inline(never)]
     pub fn set_constant(&self, name: Name, value: Grown<Node>) -> Result<Grown<Node>, MakeFault>
         requires name { IsName self.now.names.now name }
         requires value { IsNamed self.now.names.now value }
@@ -88,6 +92,7 @@ impl<'t> Maker<'t> {
     }
 
     /// `e::N` (11.5.4.2).
+    #[inline(never)]
     pub fn scoped(&self, base: Grown<Node>, name: Name) -> Result<Grown<Node>, MakeFault>
         requires base { IsNamed self.now.names.now base }
         requires name { IsName self.now.names.now name }
@@ -104,6 +109,7 @@ impl<'t> Maker<'t> {
     }
 
     /// `b::N = e`.
+    #[inline(never)]
     pub fn set_scoped(
         &self,
         base: Grown<Node>,
@@ -130,6 +136,7 @@ impl<'t> Maker<'t> {
     }
 
     /// `r.x = e`.
+    #[inline(never)]
     pub fn set_attribute(
         &self,
         receiver: Grown<Node>,
@@ -156,6 +163,7 @@ impl<'t> Maker<'t> {
     }
 
     /// `!e` and `not e` (11.2.2 and 11.2.5).
+    #[inline(never)]
     pub fn negation(&self, value: Grown<Node>) -> Result<Grown<Node>, MakeFault>
         requires value { IsNamed self.now.names.now value }
         ensures told { Gives (grown_seen self.now.names.now)
@@ -167,6 +175,7 @@ impl<'t> Maker<'t> {
     }
 
     /// `a && b` and `a and b` (11.2.3).
+    #[inline(never)]
     pub fn conjunction(
         &self,
         left: Grown<Node>,
@@ -190,6 +199,7 @@ impl<'t> Maker<'t> {
     }
 
     /// `a || b` and `a or b` (11.2.4).
+    #[inline(never)]
     pub fn disjunction(
         &self,
         left: Grown<Node>,
@@ -213,6 +223,7 @@ impl<'t> Maker<'t> {
     }
 
     /// `return e` (11.5.2.4).
+    #[inline(never)]
     pub fn return_value(&self, value: Grown<Node>) -> Result<Grown<Node>, MakeFault>
         requires value { IsNamed self.now.names.now value }
         ensures told { Gives (grown_seen self.now.names.now)
@@ -227,6 +238,7 @@ impl<'t> Maker<'t> {
     }
 
     /// `[a, b]` (11.5.5).
+    #[inline(never)]
     pub fn array(&self, items: Vec<Grown<Node>>) -> Result<Grown<Node>, MakeFault>
         requires items { AreNamed self.now.names.now items.items }
         ensures told { Gives (grown_seen self.now.names.now)
@@ -239,6 +251,7 @@ impl<'t> Maker<'t> {
     }
 
     /// `begin .. end` without clauses, and parentheses round none or several statements.
+    #[inline(never)]
     pub fn sequence(&self, statements: Vec<Grown<Node>>) -> Result<Grown<Node>, MakeFault>
         requires statements { AreNamed self.now.names.now statements.items }
         ensures told { Gives (grown_seen self.now.names.now)
@@ -251,6 +264,7 @@ impl<'t> Maker<'t> {
     }
 
     /// A call on `self` (11.3).
+    #[inline(never)]
     pub fn self_call(&self, name: Name, args: Vec<Grown<Node>>) -> Result<Grown<Node>, MakeFault>
         requires name { IsName self.now.names.now name }
         requires args { AreNamed self.now.names.now args.items }
@@ -265,6 +279,7 @@ impl<'t> Maker<'t> {
     }
 
     /// `super` with arguments (11.3.4).
+    #[inline(never)]
     pub fn super_call(&self, args: Vec<Grown<Node>>) -> Result<Grown<Node>, MakeFault>
         requires args { AreNamed self.now.names.now args.items }
         ensures told { Gives (grown_seen self.now.names.now)
@@ -277,6 +292,7 @@ impl<'t> Maker<'t> {
     }
 
     /// A call with a receiver (11.3).
+    #[inline(never)]
     pub fn call(
         &self,
         receiver: Grown<Node>,
@@ -300,6 +316,7 @@ impl<'t> Maker<'t> {
     }
 
     /// A test, the body where it holds, and the body where it does not (11.5.2.2).
+    #[inline(never)]
     pub fn choice(
         &self,
         order: Order,
@@ -331,6 +348,7 @@ impl<'t> Maker<'t> {
     }
 
     /// `while` (11.5.2.3).
+    #[inline(never)]
     pub fn repetition(
         &self,
         order: Order,

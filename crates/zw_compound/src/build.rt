@@ -30,6 +30,7 @@ pub(crate) fn body_or_none(maker: &Maker<'_>, body: Option<Vec<Grown<Node>>>) ->
 }
 
 /// A node in a row of its own.
+#[inline(never)]
 pub fn only(alloc: Global, one: Grown<Node>) -> Result<Vec<Grown<Node>>, AllocError>
     ensures { IfOk result (λ all. all.items ≡ one ∷ []) }
 {
@@ -49,6 +50,7 @@ fn choice_of(maker: &Maker<'_>, arm: Arm, other: Vec<Grown<Node>>) -> Result<Gro
 }
 
 // An arm and what stands behind it, as what stands in the `else` of the arm before it.
+#[inline(never)]
 fn else_of_one(
     maker: &Maker<'_>,
     arm: Arm,
@@ -65,6 +67,7 @@ fn else_of_one(
 }
 
 // What stands in the `else` before these arms, the last of which has these statements in its own.
+#[inline(never)]
 fn else_of(
     maker: &Maker<'_>,
     mut arms: Vec<Arm>,
@@ -84,6 +87,7 @@ fn else_of(
 
 /// An `if` whose `elsif` are choices in its `else`.
 #[tactic(auto, using(crate::proofs::ElseLemmas::chosen_by_else))]
+#[inline(never)]
 pub(crate) fn chosen(
     maker: &Maker<'_>,
     first: Arm,
@@ -102,6 +106,7 @@ pub(crate) fn chosen(
 }
 
 /// `until`: a `while` over `not`.
+#[inline(never)]
 pub fn until(
     maker: &Maker<'_>,
     order: Order,
@@ -119,6 +124,7 @@ pub fn until(
 }
 
 /// The parameters with one more that a call must give. It stands before those with a default.
+#[inline(never)]
 pub(crate) fn required_after(
     maker: &Maker<'_>,
     mut params: Params,
@@ -139,6 +145,7 @@ pub(crate) fn required_after(
 
 /// The parameters with one more that has a default.
 #[tactic(auto, using(crate::proofs::NamedLemmas::optional_pushed))]
+#[inline(never)]
 pub(crate) fn with_default(
     maker: &Maker<'_>,
     mut params: Params,

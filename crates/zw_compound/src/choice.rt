@@ -29,6 +29,7 @@ pub(crate) struct Arm {
 
 /// A test, `then`, and the statements behind it.
 #[tactic(auto, unfolding(zw_def_syntax::specs::Compound::arm))]
+#[inline(never)]
 pub(crate) fn one_arm<
     't,
     F: Fn(Maker<'t>, &mut Cursor<'t>, usize, Within) -> Result<Read, MakeFault>,
@@ -49,6 +50,7 @@ pub(crate) fn one_arm<
 
 /// What stands after one `elsif`.
 #[tactic(auto, using(crate::proofs::NamedLemmas::arm_pushed))]
+#[inline(never)]
 pub(crate) fn one_more_arm<
     't,
     F: Fn(Maker<'t>, &mut Cursor<'t>, usize, Within) -> Result<Read, MakeFault>,
@@ -74,6 +76,7 @@ pub(crate) fn one_more_arm<
 
 /// What stands after each `elsif`.
 #[tactic(auto, using(zw_def_syntax::proofs::TurnLemmas::loop_ended, zw_def_syntax::proofs::TurnLemmas::loop_refused, zw_def_syntax::proofs::TurnLemmas::loop_gone_on, zw_def_syntax::proofs::TurnLemmas::loop_done))]
+#[inline(never)]
 pub(crate) fn more_arms<
     't,
     F: Fn(Maker<'t>, &mut Cursor<'t>, usize, Within) -> Result<Read, MakeFault>,
@@ -102,6 +105,7 @@ pub(crate) fn more_arms<
 }
 
 /// The statements behind a word, where it stands here.
+#[inline(never)]
 pub(crate) fn program_after<
     't,
     F: Fn(Maker<'t>, &mut Cursor<'t>, usize, Within) -> Result<Read, MakeFault>,
@@ -128,6 +132,7 @@ pub(crate) fn program_after<
 
 /// `if` (11.5.2.2).
 #[tactic(auto, unfolding(zw_def_syntax::specs::Compound::if_rule))]
+#[inline(never)]
 pub(crate) fn if_rule<
     't,
     F: Fn(Maker<'t>, &mut Cursor<'t>, usize, Within) -> Result<Read, MakeFault>,
@@ -151,6 +156,7 @@ pub(crate) fn if_rule<
 
 /// `unless`: an `if` with its bodies exchanged (11.5.2.2).
 #[tactic(auto, unfolding(zw_def_syntax::specs::Compound::unless_rule))]
+#[inline(never)]
 pub(crate) fn unless_rule<
     't,
     F: Fn(Maker<'t>, &mut Cursor<'t>, usize, Within) -> Result<Read, MakeFault>,
@@ -172,6 +178,7 @@ pub(crate) fn unless_rule<
 }
 
 /// A test, `do` or line ends, and the statements behind it.
+#[inline(never)]
 pub(crate) fn loop_arm<
     't,
     F: Fn(Maker<'t>, &mut Cursor<'t>, usize, Within) -> Result<Read, MakeFault>,
@@ -192,6 +199,7 @@ pub(crate) fn loop_arm<
 
 /// `while` (11.5.2.3).
 #[tactic(auto, using(crate::proofs::PartLemmas::loop_by_arm))]
+#[inline(never)]
 pub(crate) fn while_rule<
     't,
     F: Fn(Maker<'t>, &mut Cursor<'t>, usize, Within) -> Result<Read, MakeFault>,
@@ -215,6 +223,7 @@ pub(crate) fn while_rule<
 
 /// `until` (11.5.2.3).
 #[tactic(auto, using(crate::proofs::PartLemmas::loop_by_arm))]
+#[inline(never)]
 pub(crate) fn until_rule<
     't,
     F: Fn(Maker<'t>, &mut Cursor<'t>, usize, Within) -> Result<Read, MakeFault>,

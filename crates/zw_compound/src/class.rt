@@ -18,6 +18,7 @@ use zw_lexer::{Keyword, Punctuation};
 
 /// `<` and a superclass, where it is there.
 #[tactic(auto, unfolding(zw_def_syntax::specs::Compound::superclass))]
+#[inline(never)]
 pub(crate) fn superclass<
     't,
     F: Fn(Maker<'t>, &mut Cursor<'t>, usize, Within) -> Result<Read, MakeFault>,
@@ -39,6 +40,7 @@ pub(crate) fn superclass<
 
 /// A body, outside which nothing changes.
 #[tactic(auto, unfolding(zw_def_syntax::specs::Input::apart))]
+#[inline(never)]
 pub(crate) fn body_apart<
     't,
     F: Fn(Maker<'t>, &mut Cursor<'t>, usize, Within) -> Result<Read, MakeFault>,
@@ -58,6 +60,7 @@ pub(crate) fn body_apart<
 }
 
 /// Line ends, a body, and `end`.
+#[inline(never)]
 pub(crate) fn closed_body<
     't,
     F: Fn(Maker<'t>, &mut Cursor<'t>, usize, Within) -> Result<Read, MakeFault>,
@@ -78,6 +81,7 @@ pub(crate) fn closed_body<
 
 /// `class` (13.2.2).
 #[tactic(auto, using(crate::proofs::PartLemmas::class_by_body))]
+#[inline(never)]
 pub(crate) fn class_rule<
     't,
     F: Fn(Maker<'t>, &mut Cursor<'t>, usize, Within) -> Result<Read, MakeFault>,
@@ -99,6 +103,7 @@ pub(crate) fn class_rule<
 
 /// `module` (13.1.2).
 #[tactic(auto, using(crate::proofs::PartLemmas::module_by_body))]
+#[inline(never)]
 pub(crate) fn module_rule<
     't,
     F: Fn(Maker<'t>, &mut Cursor<'t>, usize, Within) -> Result<Read, MakeFault>,

@@ -21,6 +21,7 @@ use zw_names::Name;
 
 /// `=>` and a variable, where it is there.
 #[tactic(auto, unfolding(zw_def_syntax::specs::Compound::rescue_variable))]
+#[inline(never)]
 pub(crate) fn rescue_variable<
     't,
     F: Fn(Maker<'t>, &mut Cursor<'t>, usize, Within) -> Result<Read, MakeFault>,
@@ -44,6 +45,7 @@ pub(crate) fn rescue_variable<
 
 /// `rescue` with its paths, its variable and its statements.
 #[tactic(auto, unfolding(zw_def_syntax::specs::Compound::rescue_clause))]
+#[inline(never)]
 pub(crate) fn rescue_clause<
     't,
     F: Fn(Maker<'t>, &mut Cursor<'t>, usize, Within) -> Result<Read, MakeFault>,
@@ -70,6 +72,7 @@ pub(crate) fn rescue_clause<
 
 /// One rescue clause more.
 #[tactic(auto, using(crate::proofs::NamedLemmas::clause_pushed))]
+#[inline(never)]
 pub(crate) fn one_more_clause<
     't,
     F: Fn(Maker<'t>, &mut Cursor<'t>, usize, Within) -> Result<Read, MakeFault>,
@@ -95,6 +98,7 @@ pub(crate) fn one_more_clause<
 
 /// All rescue clauses.
 #[tactic(auto, using(zw_def_syntax::proofs::TurnLemmas::loop_ended, zw_def_syntax::proofs::TurnLemmas::loop_refused, zw_def_syntax::proofs::TurnLemmas::loop_gone_on, zw_def_syntax::proofs::TurnLemmas::loop_done))]
+#[inline(never)]
 pub(crate) fn rescue_clauses<
     't,
     F: Fn(Maker<'t>, &mut Cursor<'t>, usize, Within) -> Result<Read, MakeFault>,
@@ -150,6 +154,7 @@ pub(crate) fn else_after<
 
 /// A body with its clauses.
 #[tactic(auto, unfolding(zw_def_syntax::specs::Compound::clauses))]
+#[inline(never)]
 pub(crate) fn clauses<
     't,
     F: Fn(Maker<'t>, &mut Cursor<'t>, usize, Within) -> Result<Read, MakeFault>,
@@ -176,6 +181,7 @@ pub(crate) fn clauses<
 
 /// `begin` (11.5.2.5).
 #[tactic(auto, unfolding(zw_def_syntax::specs::Compound::begin_rule))]
+#[inline(never)]
 pub(crate) fn begin_rule<
     't,
     F: Fn(Maker<'t>, &mut Cursor<'t>, usize, Within) -> Result<Read, MakeFault>,

@@ -10,6 +10,7 @@ use zw_ast::{Maker, Params};
 use zw_expr::Known;
 
 /// The parameters, as variables that are known.
+#[inline(never)]
 pub(crate) fn params_known(maker: &Maker<'_>, params: &Params) -> Result<Known, AllocError>
     requires { params_names params.now ≤ length maker.now.names.now }
     ensures told { IfOk result (λ known. texts_of maker.now.names.now known

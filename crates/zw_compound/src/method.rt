@@ -56,6 +56,7 @@ fn setter_next(tokens: &Cursor<'_>) -> bool
 
 /// A name that is a word, or one of a setter.
 #[tactic(auto, unfolding(zw_def_syntax::specs::Compound::word_method))]
+#[inline(never)]
 pub(crate) fn word_method<'t>(
     maker: &Maker<'t>,
     tokens: &mut Cursor<'t>,
@@ -127,6 +128,7 @@ pub(crate) fn take_operator<'t>(
 }
 
 /// `[]` as a name.
+#[inline(never)]
 pub(crate) fn index_method<'t>(
     maker: &Maker<'t>,
     tokens: &mut Cursor<'t>,
@@ -144,6 +146,7 @@ pub(crate) fn index_method<'t>(
 
 /// The name of a method.
 #[tactic(auto, unfolding(zw_def_syntax::specs::Compound::method_name))]
+#[inline(never)]
 pub(crate) fn method_name<'t>(
     maker: &Maker<'t>,
     tokens: &mut Cursor<'t>,
@@ -165,6 +168,7 @@ pub(crate) fn method_name<'t>(
 
 /// `self.` before a name, where it is there.
 #[tactic(auto, unfolding(zw_def_syntax::specs::Compound::on_self))]
+#[inline(never)]
 pub(crate) fn on_self<
     't,
     F: Fn(Maker<'t>, &mut Cursor<'t>, usize, Within) -> Result<Read, MakeFault>,
@@ -186,6 +190,7 @@ pub(crate) fn on_self<
 
 /// Parameters and a body. In it the parameters alone are known at its start.
 #[tactic(auto, unfolding(zw_def_syntax::specs::Compound::method))]
+#[inline(never)]
 pub(crate) fn params_and_body<
     't,
     F: Fn(Maker<'t>, &mut Cursor<'t>, usize, Within) -> Result<Read, MakeFault>,
@@ -208,6 +213,7 @@ pub(crate) fn params_and_body<
 
 /// Parameters and a body, outside which nothing changes.
 #[tactic(auto, unfolding(zw_def_syntax::specs::Input::apart))]
+#[inline(never)]
 pub(crate) fn method_apart<
     't,
     F: Fn(Maker<'t>, &mut Cursor<'t>, usize, Within) -> Result<Read, MakeFault>,
@@ -228,6 +234,7 @@ pub(crate) fn method_apart<
 
 /// `def` (13.3.1 and 13.4.3).
 #[tactic(auto, unfolding(zw_def_syntax::specs::Compound::def_rule))]
+#[inline(never)]
 pub(crate) fn def_rule<
     't,
     F: Fn(Maker<'t>, &mut Cursor<'t>, usize, Within) -> Result<Read, MakeFault>,

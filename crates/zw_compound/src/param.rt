@@ -21,6 +21,7 @@ use zw_lexer::{Punctuation, TokenKind};
 use zw_names::Name;
 
 /// `=` and a default.
+#[inline(never)]
 pub(crate) fn default_of<
     't,
     F: Fn(Maker<'t>, &mut Cursor<'t>, usize, Within) -> Result<Read, MakeFault>,
@@ -48,6 +49,7 @@ pub(crate) fn default_of<
 
 /// A parameter, which is known from its name on.
 #[tactic(auto, unfolding(zw_def_syntax::specs::Compound::param))]
+#[inline(never)]
 pub(crate) fn param<
     't,
     F: Fn(Maker<'t>, &mut Cursor<'t>, usize, Within) -> Result<Read, MakeFault>,
@@ -92,6 +94,7 @@ pub(crate) fn one_more_param<
 
 /// The parameters after the first.
 #[tactic(auto, using(zw_def_syntax::proofs::TurnLemmas::loop_ended, zw_def_syntax::proofs::TurnLemmas::loop_refused, zw_def_syntax::proofs::TurnLemmas::loop_gone_on, zw_def_syntax::proofs::TurnLemmas::loop_done))]
+#[inline(never)]
 pub(crate) fn more_params<
     't,
     F: Fn(Maker<'t>, &mut Cursor<'t>, usize, Within) -> Result<Read, MakeFault>,
@@ -131,6 +134,7 @@ fn no_params(alloc: Global) -> Params
 
 /// Parameters with `,` between them.
 #[tactic(auto, unfolding(zw_def_syntax::specs::Compound::plist))]
+#[inline(never)]
 pub(crate) fn plist<
     't,
     F: Fn(Maker<'t>, &mut Cursor<'t>, usize, Within) -> Result<Read, MakeFault>,
@@ -178,6 +182,7 @@ pub(crate) fn optional_plist<
 }
 
 /// Parameters in parentheses.
+#[inline(never)]
 pub(crate) fn params_in_parens<
     't,
     F: Fn(Maker<'t>, &mut Cursor<'t>, usize, Within) -> Result<Read, MakeFault>,

@@ -18,6 +18,7 @@ use zw_lexer::{Punctuation, TokenKind};
 use zw_names::Name;
 
 // A constant of what a node gives.
+#[inline(never)]
 fn inside(alloc: Global, base: Grown<Node>, name: Name) -> Result<ConstantPath, AllocError>
     ensures told { (names : List Text) → IfOk result (λ p. path_seen names p
         ≡ part.path_inside (grown_seen names base) (name_seen names name)) }
@@ -35,6 +36,7 @@ fn inside(alloc: Global, base: Grown<Node>, name: Name) -> Result<ConstantPath, 
 
 /// `::N` behind a path.
 #[tactic(auto, unfolding(zw_def_syntax::specs::Compound::longer_path))]
+#[inline(never)]
 pub(crate) fn longer_path<'t>(
     maker: &Maker<'t>,
     tokens: &mut Cursor<'t>,
@@ -55,6 +57,7 @@ pub(crate) fn longer_path<'t>(
 
 /// What goes on with a path.
 #[tactic(auto, using(zw_def_syntax::proofs::TurnLemmas::loop_ended, zw_def_syntax::proofs::TurnLemmas::loop_refused, zw_def_syntax::proofs::TurnLemmas::loop_gone_on, zw_def_syntax::proofs::TurnLemmas::loop_done))]
+#[inline(never)]
 pub(crate) fn longer_paths<'t>(
     maker: &Maker<'t>,
     tokens: &mut Cursor<'t>,
@@ -93,6 +96,7 @@ fn first_base(tokens: &mut Cursor<'_>) -> Base<Node>
 }
 
 /// The first constant of a path.
+#[inline(never)]
 pub(crate) fn first_path<'t>(
     maker: &Maker<'t>,
     tokens: &mut Cursor<'t>,
@@ -113,6 +117,7 @@ pub(crate) fn first_path<'t>(
 
 /// The path of a class or module.
 #[tactic(auto, unfolding(zw_def_syntax::specs::Compound::cpath))]
+#[inline(never)]
 pub(crate) fn constant_path<'t>(
     maker: &Maker<'t>,
     tokens: &mut Cursor<'t>,
@@ -129,6 +134,7 @@ pub(crate) fn constant_path<'t>(
 
 /// A path, as a node.
 #[tactic(auto, unfolding(zw_def_syntax::specs::Compound::path))]
+#[inline(never)]
 pub(crate) fn path<'t>(maker: &Maker<'t>, tokens: &mut Cursor<'t>) -> Result<Grown<Node>, MakeFault>
     requires same { tokens.old.names ≡ maker.now.names.now }
     ensures reads { Reads (grown_seen maker.now.names.now) (spec.path) tokens.old.input result
@@ -158,6 +164,7 @@ pub(crate) fn path_next(tokens: &Cursor<'_>) -> bool
 
 /// One path more.
 #[tactic(auto, using(crate::proofs::NamedLemmas::named_pushed))]
+#[inline(never)]
 pub(crate) fn one_more_path<'t>(
     maker: &Maker<'t>,
     tokens: &mut Cursor<'t>,
@@ -178,6 +185,7 @@ pub(crate) fn one_more_path<'t>(
 
 /// The paths after the first.
 #[tactic(auto, using(zw_def_syntax::proofs::TurnLemmas::loop_ended, zw_def_syntax::proofs::TurnLemmas::loop_refused, zw_def_syntax::proofs::TurnLemmas::loop_gone_on, zw_def_syntax::proofs::TurnLemmas::loop_done))]
+#[inline(never)]
 pub(crate) fn more_paths<'t>(
     maker: &Maker<'t>,
     tokens: &mut Cursor<'t>,
@@ -201,6 +209,7 @@ pub(crate) fn more_paths<'t>(
 }
 
 /// The first path of a list.
+#[inline(never)]
 pub(crate) fn first_of_paths<'t>(
     maker: &Maker<'t>,
     tokens: &mut Cursor<'t>,
@@ -218,6 +227,7 @@ pub(crate) fn first_of_paths<'t>(
 
 /// Paths with `,` between them.
 #[tactic(auto, unfolding(zw_def_syntax::specs::Compound::paths))]
+#[inline(never)]
 pub(crate) fn paths<'t>(
     maker: &Maker<'t>,
     tokens: &mut Cursor<'t>,

@@ -70,6 +70,7 @@ fn optional_then(tokens: &mut Cursor<'_>)
 
 /// Passes over `then`, or line ends with it or without it.
 #[tactic(auto, unfolding(zw_def_syntax::specs::Compound::then_word))]
+#[inline(never)]
 pub(crate) fn then_word(tokens: &mut Cursor<'_>) -> Result<(), MakeFault>
     ensures reads { Reads (λ x. x) spec.then_word tokens.old.input result tokens.new.input }
     ensures names { tokens.new.names ≡ tokens.old.names }

@@ -17,6 +17,7 @@ use std::collections::VecDeque;
 use zw_ast::{Grown, MakeFault, Maker, Malformed, Node};
 
 // An operand, made into one with what stands behind it.
+#[inline(never)]
 fn with_joined(
     maker: &Maker<'_>,
     sign: Sign,
@@ -38,6 +39,7 @@ fn with_joined(
 
 // The last operand, made into one with what stands behind it.
 #[tactic(auto, using(crate::proofs::JoinLemmas::last_goes, crate::proofs::JoinLemmas::last_fails, crate::proofs::ListLemmas::greatest_pushed))]
+#[inline(never)]
 fn join_last(
     maker: &Maker<'_>,
     sign: Sign,
@@ -63,6 +65,7 @@ fn join_last(
 
 // The last operand, made into one with the next, before which a sign of the level stands.
 #[tactic(auto, unfolding(crate::specs::Joined::turn_of))]
+#[inline(never)]
 fn joined_on(
     maker: &Maker<'_>,
     level: Level,
@@ -90,6 +93,7 @@ fn joined_on(
 
 // One more operand: whether the last one is now made of others.
 #[tactic(auto, using(crate::proofs::JoinLemmas::level_sign_is, crate::proofs::ListLemmas::greatest_pushed), unfolding(crate::specs::Joined::turn_of))]
+#[inline(never)]
 fn turned(
     maker: &Maker<'_>,
     level: Level,
@@ -117,6 +121,7 @@ fn turned(
 
 // The operands that are left, behind those that are done.
 #[tactic(auto, using(crate::proofs::JoinLemmas::turn_goes, crate::proofs::JoinLemmas::turn_fails, crate::proofs::JoinLemmas::level_ends))]
+#[inline(never)]
 fn joined_from(
     maker: &Maker<'_>,
     level: Level,
@@ -138,6 +143,7 @@ fn joined_from(
 }
 
 // Those between which a sign of the level stands, made into one.
+#[inline(never)]
 fn joined(
     maker: &Maker<'_>,
     level: Level,
@@ -157,6 +163,7 @@ fn joined(
 }
 
 // The three levels that are tightest.
+#[inline(never)]
 fn tight(maker: &Maker<'_>, operands: VecDeque<Operand>) -> Result<VecDeque<Operand>, MakeFault>
     requires { AreNamedOperands maker.now.names.now operands.items }
     ensures told { Gives (λ all. operands_seen maker.now.names.now all.items)
@@ -169,6 +176,7 @@ fn tight(maker: &Maker<'_>, operands: VecDeque<Operand>) -> Result<VecDeque<Oper
 }
 
 // The three that are loosest.
+#[inline(never)]
 fn loose(maker: &Maker<'_>, operands: VecDeque<Operand>) -> Result<VecDeque<Operand>, MakeFault>
     requires { AreNamedOperands maker.now.names.now operands.items }
     ensures told { Gives (λ all. operands_seen maker.now.names.now all.items)
@@ -196,6 +204,7 @@ fn only(mut operands: VecDeque<Operand>) -> Result<Grown<Node>, MakeFault>
 /// The node that the levels make of operands with signs between them. Malformed where they make none: `a == b == c`, or
 /// a node that would be too high.
 #[tactic(auto, using(crate::proofs::JoinLemmas::folded_goes, crate::proofs::JoinLemmas::folded_fails, crate::proofs::JoinLemmas::folded_ends))]
+#[inline(never)]
 pub fn fold(maker: &Maker<'_>, operands: VecDeque<Operand>) -> Result<Grown<Node>, MakeFault>
     requires { AreNamedOperands maker.now.names.now operands.items }
     ensures told { Gives (grown_seen maker.now.names.now)

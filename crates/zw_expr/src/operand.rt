@@ -34,6 +34,7 @@ fn is_or(sign: Sign) -> bool
 }
 
 // The call of the method that the sign is.
+#[inline(never)]
 fn called(
     maker: &Maker<'_>,
     sign: Sign,

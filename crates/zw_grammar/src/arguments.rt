@@ -16,6 +16,7 @@ use zw_lexer::Punctuation;
 
 /// One argument more.
 #[tactic(auto, using(crate::proofs::NamedLemmas::named_pushed))]
+#[inline(never)]
 pub(crate) fn one_more<
     't,
     F: Fn(Maker<'t>, &mut Cursor<'t>, usize, Within) -> Result<Read, MakeFault>,
@@ -41,6 +42,7 @@ pub(crate) fn one_more<
 
 /// The arguments after the first.
 #[tactic(auto, using(zw_def_syntax::proofs::TurnLemmas::loop_ended, zw_def_syntax::proofs::TurnLemmas::loop_refused, zw_def_syntax::proofs::TurnLemmas::loop_gone_on, zw_def_syntax::proofs::TurnLemmas::loop_done))]
+#[inline(never)]
 pub(crate) fn more_arguments<
     't,
     F: Fn(Maker<'t>, &mut Cursor<'t>, usize, Within) -> Result<Read, MakeFault>,
@@ -69,6 +71,7 @@ pub(crate) fn more_arguments<
 }
 
 /// The first of a list.
+#[inline(never)]
 pub(crate) fn first_argument<
     't,
     F: Fn(Maker<'t>, &mut Cursor<'t>, usize, Within) -> Result<Read, MakeFault>,
@@ -88,6 +91,7 @@ pub(crate) fn first_argument<
 
 /// `a, b` (11.3.2).
 #[tactic(auto, unfolding(zw_def_syntax::specs::Expression::arguments))]
+#[inline(never)]
 pub(crate) fn arguments<
     't,
     F: Fn(Maker<'t>, &mut Cursor<'t>, usize, Within) -> Result<Read, MakeFault>,
@@ -126,6 +130,7 @@ pub(crate) fn optional_arguments<
 
 /// `(a, b)` after a method's name.
 #[tactic(auto, unfolding(zw_def_syntax::specs::Expression::parens))]
+#[inline(never)]
 pub(crate) fn parens<
     't,
     F: Fn(Maker<'t>, &mut Cursor<'t>, usize, Within) -> Result<Read, MakeFault>,
@@ -146,6 +151,7 @@ pub(crate) fn parens<
 
 /// The items of an array after the first.
 #[tactic(auto, using(zw_def_syntax::proofs::TurnLemmas::loop_ended, zw_def_syntax::proofs::TurnLemmas::loop_refused, zw_def_syntax::proofs::TurnLemmas::loop_gone_on, zw_def_syntax::proofs::TurnLemmas::loop_done))]
+#[inline(never)]
 pub(crate) fn more_items<
     't,
     F: Fn(Maker<'t>, &mut Cursor<'t>, usize, Within) -> Result<Read, MakeFault>,
@@ -175,6 +181,7 @@ pub(crate) fn more_items<
 
 /// `a, b` or `a, b,`.
 #[tactic(auto, unfolding(zw_def_syntax::specs::Expression::items))]
+#[inline(never)]
 pub(crate) fn items<
     't,
     F: Fn(Maker<'t>, &mut Cursor<'t>, usize, Within) -> Result<Read, MakeFault>,

@@ -19,6 +19,7 @@ use zw_names::Name;
 
 /// `=` and a value, for a constant.
 #[tactic(auto, unfolding(zw_def_syntax::specs::Grammar::assigned))]
+#[inline(never)]
 pub(crate) fn constant_assignment<
     't,
     F: Fn(Maker<'t>, &mut Cursor<'t>, usize, Within) -> Result<Read, MakeFault>,
@@ -40,6 +41,7 @@ pub(crate) fn constant_assignment<
 
 /// `=` and a value, for a variable.
 #[tactic(auto, unfolding(zw_def_syntax::specs::Grammar::assigned))]
+#[inline(never)]
 pub(crate) fn variable_assignment<
     't,
     F: Fn(Maker<'t>, &mut Cursor<'t>, usize, Within) -> Result<Read, MakeFault>,
@@ -64,6 +66,7 @@ pub(crate) fn variable_assignment<
 }
 
 /// A local variable, `=` and a value. It is known in its value.
+#[inline(never)]
 pub(crate) fn local_assignment<
     't,
     F: Fn(Maker<'t>, &mut Cursor<'t>, usize, Within) -> Result<Read, MakeFault>,
@@ -114,6 +117,7 @@ pub(crate) fn assignment<
 
 /// `b::N = e` (11.4.2.2).
 #[tactic(auto, unfolding(zw_def_syntax::specs::Grammar::scoped_assignment, zw_def_syntax::specs::Grammar::assigned))]
+#[inline(never)]
 pub(crate) fn scoped_assignment<
     't,
     F: Fn(Maker<'t>, &mut Cursor<'t>, usize, Within) -> Result<Read, MakeFault>,
@@ -141,6 +145,7 @@ pub(crate) fn scoped_assignment<
 
 /// `r.x = e` (11.4.2.2).
 #[tactic(auto, unfolding(zw_def_syntax::specs::Grammar::attribute_assignment, zw_def_syntax::specs::Grammar::assigned))]
+#[inline(never)]
 pub(crate) fn attribute_assignment<
     't,
     F: Fn(Maker<'t>, &mut Cursor<'t>, usize, Within) -> Result<Read, MakeFault>,

@@ -39,6 +39,7 @@ pub(crate) fn joined(
 }
 
 /// A body with a modifier, and its test (12.3 to 12.6).
+#[inline(never)]
 pub(crate) fn modified(
     maker: &Maker<'_>,
     word: Keyword,

@@ -14,6 +14,7 @@ use zw_expr::{Cursor, Form, Grammar, Read, Within};
 
 /// A call without parentheses (11.3).
 #[tactic(auto, unfolding(zw_def_syntax::specs::Grammar::command))]
+#[inline(never)]
 pub(crate) fn command<
     't,
     F: Fn(Maker<'t>, &mut Cursor<'t>, usize, Within) -> Result<Read, MakeFault>,
@@ -33,6 +34,7 @@ pub(crate) fn command<
 
 /// `super` with arguments and no parentheses (11.3.4).
 #[tactic(auto, unfolding(zw_def_syntax::specs::Grammar::super_command))]
+#[inline(never)]
 pub(crate) fn super_command<
     't,
     F: Fn(Maker<'t>, &mut Cursor<'t>, usize, Within) -> Result<Read, MakeFault>,
@@ -52,6 +54,7 @@ pub(crate) fn super_command<
 
 /// `r.x` with arguments and no parentheses (11.3).
 #[tactic(auto, unfolding(zw_def_syntax::specs::Grammar::call_command))]
+#[inline(never)]
 pub(crate) fn call_command<
     't,
     F: Fn(Maker<'t>, &mut Cursor<'t>, usize, Within) -> Result<Read, MakeFault>,

@@ -23,6 +23,7 @@ use zw_expr::{Cursor, Form, Grammar, Operand, Read, Within, fold};
 use zw_lexer::Punctuation;
 
 /// `!a` (11.2.5).
+#[inline(never)]
 pub(crate) fn inverted<
     't,
     F: Fn(Maker<'t>, &mut Cursor<'t>, usize, Within) -> Result<Read, MakeFault>,
@@ -52,6 +53,7 @@ fn negation(maker: &Maker<'_>, value: Grown<Node>) -> Result<Grown<Node>, MakeFa
 }
 
 /// `-a` (11.4.3).
+#[inline(never)]
 pub(crate) fn minus<
     't,
     F: Fn(Maker<'t>, &mut Cursor<'t>, usize, Within) -> Result<Read, MakeFault>,
@@ -132,6 +134,7 @@ pub(crate) fn unary<
 
 /// An operand more, with the sign before it.
 #[tactic(auto, using(crate::proofs::NamedLemmas::operand_pushed), unfolding(zw_def_syntax::specs::Expression::operand))]
+#[inline(never)]
 pub(crate) fn operand<
     't,
     F: Fn(Maker<'t>, &mut Cursor<'t>, usize, Within) -> Result<Read, MakeFault>,
@@ -161,6 +164,7 @@ pub(crate) fn operand<
 
 /// The operands after the first.
 #[tactic(auto, using(zw_def_syntax::proofs::TurnLemmas::loop_ended, zw_def_syntax::proofs::TurnLemmas::loop_refused, zw_def_syntax::proofs::TurnLemmas::loop_gone_on, zw_def_syntax::proofs::TurnLemmas::loop_done))]
+#[inline(never)]
 pub(crate) fn operands<
     't,
     F: Fn(Maker<'t>, &mut Cursor<'t>, usize, Within) -> Result<Read, MakeFault>,
@@ -189,6 +193,7 @@ pub(crate) fn operands<
 }
 
 // The node of a first operand and those behind it.
+#[inline(never)]
 fn folded(
     maker: &Maker<'_>,
     first: Grown<Node>,
@@ -209,6 +214,7 @@ fn folded(
 
 /// The levels from `||` to `*`, from their first operand on (11.2 and 11.4.4).
 #[tactic(auto, unfolding(zw_def_syntax::specs::Expression::operation_from))]
+#[inline(never)]
 pub(crate) fn operation_from<
     't,
     F: Fn(Maker<'t>, &mut Cursor<'t>, usize, Within) -> Result<Read, MakeFault>,
@@ -239,6 +245,7 @@ pub(crate) struct Bodies {
 }
 
 /// `a : b`.
+#[inline(never)]
 pub(crate) fn both_alternatives<
     't,
     F: Fn(Maker<'t>, &mut Cursor<'t>, usize, Within) -> Result<Read, MakeFault>,
@@ -260,6 +267,7 @@ pub(crate) fn both_alternatives<
 
 /// `? a : b` after a test (11.5.2.2).
 #[tactic(auto, using(crate::proofs::PartLemmas::alternatives_by_both))]
+#[inline(never)]
 pub(crate) fn alternatives<
     't,
     F: Fn(Maker<'t>, &mut Cursor<'t>, usize, Within) -> Result<Read, MakeFault>,
@@ -286,6 +294,7 @@ pub(crate) fn alternatives<
 
 /// A ternary, from its first operand on.
 #[tactic(auto, unfolding(zw_def_syntax::specs::Expression::ternary_from))]
+#[inline(never)]
 pub(crate) fn ternary_from<
     't,
     F: Fn(Maker<'t>, &mut Cursor<'t>, usize, Within) -> Result<Read, MakeFault>,
@@ -314,6 +323,7 @@ pub(crate) fn ternary_from<
 
 /// `a ? b : c` (11.5.2.2).
 #[tactic(auto, unfolding(zw_def_syntax::specs::Expression::ternary))]
+#[inline(never)]
 pub(crate) fn ternary<
     't,
     F: Fn(Maker<'t>, &mut Cursor<'t>, usize, Within) -> Result<Read, MakeFault>,

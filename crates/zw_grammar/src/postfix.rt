@@ -39,6 +39,7 @@ pub(crate) fn optional_parens<
 
 /// `.x` or `.x(a)` (11.3).
 #[tactic(auto, unfolding(zw_def_syntax::specs::Expression::called))]
+#[inline(never)]
 pub(crate) fn called<
     't,
     F: Fn(Maker<'t>, &mut Cursor<'t>, usize, Within) -> Result<Read, MakeFault>,
@@ -65,6 +66,7 @@ pub(crate) fn called<
 
 /// `::N` after a postfix (11.5.4.2).
 #[tactic(auto, unfolding(zw_def_syntax::specs::Expression::scoped))]
+#[inline(never)]
 pub(crate) fn scoped<
     't,
     F: Fn(Maker<'t>, &mut Cursor<'t>, usize, Within) -> Result<Read, MakeFault>,
@@ -105,6 +107,7 @@ fn index(
 }
 
 /// `[a]`.
+#[inline(never)]
 pub(crate) fn index_arguments<
     't,
     F: Fn(Maker<'t>, &mut Cursor<'t>, usize, Within) -> Result<Read, MakeFault>,
@@ -125,6 +128,7 @@ pub(crate) fn index_arguments<
 
 /// `[a]` after a postfix (11.3.3).
 #[tactic(auto, using(crate::proofs::PartLemmas::index_by_arguments))]
+#[inline(never)]
 pub(crate) fn indexed<
     't,
     F: Fn(Maker<'t>, &mut Cursor<'t>, usize, Within) -> Result<Read, MakeFault>,
@@ -198,6 +202,7 @@ pub(crate) fn suffix<
 
 /// What goes on with a postfix.
 #[tactic(auto, using(zw_def_syntax::proofs::TurnLemmas::loop_ended, zw_def_syntax::proofs::TurnLemmas::loop_refused, zw_def_syntax::proofs::TurnLemmas::loop_gone_on, zw_def_syntax::proofs::TurnLemmas::loop_done), unfolding(zw_def_syntax::specs::Expression::suffixes))]
+#[inline(never)]
 pub(crate) fn suffixes<
     't,
     F: Fn(Maker<'t>, &mut Cursor<'t>, usize, Within) -> Result<Read, MakeFault>,
@@ -227,6 +232,7 @@ pub(crate) fn suffixes<
 
 /// A primary, and what goes on with it.
 #[tactic(auto, unfolding(zw_def_syntax::specs::Expression::postfix))]
+#[inline(never)]
 pub(crate) fn postfix<
     't,
     F: Fn(Maker<'t>, &mut Cursor<'t>, usize, Within) -> Result<Read, MakeFault>,
@@ -245,6 +251,7 @@ pub(crate) fn postfix<
 
 /// A `-` directly before an integer, and what goes on with both.
 #[tactic(auto, unfolding(zw_def_syntax::specs::Expression::negative))]
+#[inline(never)]
 pub(crate) fn negative<
     't,
     F: Fn(Maker<'t>, &mut Cursor<'t>, usize, Within) -> Result<Read, MakeFault>,

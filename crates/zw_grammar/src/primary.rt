@@ -27,6 +27,7 @@ use zw_names::Name;
 
 /// `[a, b]` (11.5.5).
 #[tactic(auto, unfolding(zw_def_syntax::specs::Expression::array))]
+#[inline(never)]
 pub(crate) fn array<
     't,
     F: Fn(Maker<'t>, &mut Cursor<'t>, usize, Within) -> Result<Read, MakeFault>,
@@ -60,6 +61,7 @@ fn grouped_tree(maker: &Maker<'_>, mut all: Vec<Grown<Node>>) -> Result<Grown<No
 
 /// `(program)` (11.5.3).
 #[tactic(auto, unfolding(zw_def_syntax::specs::Expression::grouped))]
+#[inline(never)]
 pub(crate) fn grouped<
     't,
     F: Fn(Maker<'t>, &mut Cursor<'t>, usize, Within) -> Result<Read, MakeFault>,
@@ -101,6 +103,7 @@ fn bare_name<'t>(
 }
 
 /// A name with parentheses.
+#[inline(never)]
 pub(crate) fn called_by_name<
     't,
     F: Fn(Maker<'t>, &mut Cursor<'t>, usize, Within) -> Result<Read, MakeFault>,
@@ -144,6 +147,7 @@ pub(crate) fn named<
 }
 
 /// `super` with parentheses.
+#[inline(never)]
 pub(crate) fn super_call<
     't,
     F: Fn(Maker<'t>, &mut Cursor<'t>, usize, Within) -> Result<Read, MakeFault>,
@@ -184,6 +188,7 @@ pub(crate) fn super_rule<
 
 /// `::N` (11.5.4.2).
 #[tactic(auto, unfolding(zw_def_syntax::specs::Expression::top_constant))]
+#[inline(never)]
 pub(crate) fn top_constant<
     't,
     F: Fn(Maker<'t>, &mut Cursor<'t>, usize, Within) -> Result<Read, MakeFault>,
@@ -203,6 +208,7 @@ pub(crate) fn top_constant<
 
 /// A text, and the program after it, in an interpolation.
 #[tactic(auto, using(crate::proofs::NamedLemmas::segment_pushed), unfolding(zw_def_syntax::specs::Expression::segment))]
+#[inline(never)]
 pub(crate) fn segment<
     't,
     F: Fn(Maker<'t>, &mut Cursor<'t>, usize, Within) -> Result<Read, MakeFault>,
@@ -230,6 +236,7 @@ pub(crate) fn segment<
 
 /// The texts and programs of an interpolation after its first.
 #[tactic(auto, using(zw_def_syntax::proofs::TurnLemmas::loop_ended, zw_def_syntax::proofs::TurnLemmas::loop_refused, zw_def_syntax::proofs::TurnLemmas::loop_gone_on, zw_def_syntax::proofs::TurnLemmas::loop_done))]
+#[inline(never)]
 pub(crate) fn segments<
     't,
     F: Fn(Maker<'t>, &mut Cursor<'t>, usize, Within) -> Result<Read, MakeFault>,
@@ -260,6 +267,7 @@ pub(crate) fn segments<
 
 /// A text with interpolations (8.7.6.3), by its front.
 #[tactic(auto, unfolding(zw_def_syntax::specs::Expression::interpolation))]
+#[inline(never)]
 pub(crate) fn interpolation<
     't,
     F: Fn(Maker<'t>, &mut Cursor<'t>, usize, Within) -> Result<Read, MakeFault>,
@@ -338,6 +346,7 @@ pub(crate) fn keyword_primary<
 
 /// What postfixes stand on (11.5).
 #[tactic(auto, unfolding(zw_def_syntax::specs::Expression::primary))]
+#[inline(never)]
 pub(crate) fn primary<
     't,
     F: Fn(Maker<'t>, &mut Cursor<'t>, usize, Within) -> Result<Read, MakeFault>,

@@ -21,6 +21,7 @@ use zw_expr::{Cursor, Form, Grammar, Read, Within};
 
 /// A statement more.
 #[tactic(auto, using(crate::proofs::NamedLemmas::named_pushed))]
+#[inline(never)]
 pub(crate) fn with_statement<
     't,
     F: Fn(Maker<'t>, &mut Cursor<'t>, usize, Within) -> Result<Read, MakeFault>,
@@ -73,6 +74,7 @@ pub(crate) fn separated<
 
 /// The statements after the first.
 #[tactic(auto, using(zw_def_syntax::proofs::TurnLemmas::loop_ended, zw_def_syntax::proofs::TurnLemmas::loop_refused, zw_def_syntax::proofs::TurnLemmas::loop_gone_on, zw_def_syntax::proofs::TurnLemmas::loop_done))]
+#[inline(never)]
 pub(crate) fn more_statements<
     't,
     F: Fn(Maker<'t>, &mut Cursor<'t>, usize, Within) -> Result<Read, MakeFault>,
@@ -102,6 +104,7 @@ pub(crate) fn more_statements<
 
 /// A program (10).
 #[tactic(auto, unfolding(zw_def_syntax::specs::Grammar::program))]
+#[inline(never)]
 pub(crate) fn program<
     't,
     F: Fn(Maker<'t>, &mut Cursor<'t>, usize, Within) -> Result<Read, MakeFault>,

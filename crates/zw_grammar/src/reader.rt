@@ -40,6 +40,7 @@ fn rule<'t, F: Fn(Maker<'t>, &mut Cursor<'t>, usize, Within) -> Result<Read, Mak
 }
 
 /// Reads what stands within a form by its rule.
+#[inline(never)]
 fn read_by_rule<'t, F: Fn(Maker<'t>, &mut Cursor<'t>, usize, Within) -> Result<Read, MakeFault>>(
     grammar: &Grammar<'t, F>,
     tokens: &mut Cursor<'t>,

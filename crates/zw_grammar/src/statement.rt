@@ -20,6 +20,7 @@ use zw_expr::{Cursor, Form, Grammar, Read, Within};
 use zw_lexer::Keyword;
 
 /// `not` (11.2.2).
+#[inline(never)]
 pub(crate) fn negated<
     't,
     F: Fn(Maker<'t>, &mut Cursor<'t>, usize, Within) -> Result<Read, MakeFault>,
@@ -60,6 +61,7 @@ pub(crate) fn inverse<
 
 /// `and` and `or` (11.2.3 and 11.2.4).
 #[tactic(auto, unfolding(zw_def_syntax::specs::Grammar::logic))]
+#[inline(never)]
 pub(crate) fn logic<
     't,
     F: Fn(Maker<'t>, &mut Cursor<'t>, usize, Within) -> Result<Read, MakeFault>,
@@ -85,6 +87,7 @@ pub(crate) fn logic<
 
 /// What `and` and `or` join to a part.
 #[tactic(auto, using(zw_def_syntax::proofs::TurnLemmas::loop_ended, zw_def_syntax::proofs::TurnLemmas::loop_refused, zw_def_syntax::proofs::TurnLemmas::loop_gone_on, zw_def_syntax::proofs::TurnLemmas::loop_done))]
+#[inline(never)]
 pub(crate) fn more_logic<
     't,
     F: Fn(Maker<'t>, &mut Cursor<'t>, usize, Within) -> Result<Read, MakeFault>,
@@ -114,6 +117,7 @@ pub(crate) fn more_logic<
 
 /// A line (11.2.3 and 11.2.4).
 #[tactic(auto, unfolding(zw_def_syntax::specs::Grammar::line))]
+#[inline(never)]
 pub(crate) fn line<'t, F: Fn(Maker<'t>, &mut Cursor<'t>, usize, Within) -> Result<Read, MakeFault>>(
     grammar: &Grammar<'t, F>,
     tokens: &mut Cursor<'t>,
@@ -132,6 +136,7 @@ pub(crate) fn line<'t, F: Fn(Maker<'t>, &mut Cursor<'t>, usize, Within) -> Resul
 
 /// A modifier (12.3 to 12.6).
 #[tactic(auto, unfolding(zw_def_syntax::specs::Grammar::modifier))]
+#[inline(never)]
 pub(crate) fn modifier<
     't,
     F: Fn(Maker<'t>, &mut Cursor<'t>, usize, Within) -> Result<Read, MakeFault>,
@@ -157,6 +162,7 @@ pub(crate) fn modifier<
 
 /// All modifiers behind a line.
 #[tactic(auto, using(zw_def_syntax::proofs::TurnLemmas::loop_ended, zw_def_syntax::proofs::TurnLemmas::loop_refused, zw_def_syntax::proofs::TurnLemmas::loop_gone_on, zw_def_syntax::proofs::TurnLemmas::loop_done))]
+#[inline(never)]
 pub(crate) fn modifiers<
     't,
     F: Fn(Maker<'t>, &mut Cursor<'t>, usize, Within) -> Result<Read, MakeFault>,
@@ -231,6 +237,7 @@ pub(crate) fn after_line<
 
 /// A statement (12).
 #[tactic(auto, unfolding(zw_def_syntax::specs::Grammar::statement))]
+#[inline(never)]
 pub(crate) fn statement<
     't,
     F: Fn(Maker<'t>, &mut Cursor<'t>, usize, Within) -> Result<Read, MakeFault>,

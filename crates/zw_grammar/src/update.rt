@@ -39,6 +39,7 @@ fn operator_of(sign: Punctuation) -> &'static str
 }
 
 // `x op= e` sets `x` to the call of `op` on `x` with `e`.
+#[inline(never)]
 fn set_to_call(
     maker: &Maker<'_>,
     sign: Punctuation,
@@ -60,6 +61,7 @@ fn set_to_call(
     set(maker, variable, called)
 }
 
+#[inline(never)]
 fn updated_node(
     maker: &Maker<'_>,
     sign: Punctuation,
@@ -104,6 +106,7 @@ fn take_any_sign(tokens: &mut Cursor<'_>) -> Result<Punctuation, MakeFault>
 
 /// The sign, and a value.
 #[tactic(auto, unfolding(zw_def_syntax::specs::Grammar::updated))]
+#[inline(never)]
 pub(crate) fn updated<
     't,
     F: Fn(Maker<'t>, &mut Cursor<'t>, usize, Within) -> Result<Read, MakeFault>,
@@ -129,6 +132,7 @@ pub(crate) fn updated<
 }
 
 /// A local variable's sign, and a value. The variable is known in it.
+#[inline(never)]
 pub(crate) fn local_update<
     't,
     F: Fn(Maker<'t>, &mut Cursor<'t>, usize, Within) -> Result<Read, MakeFault>,

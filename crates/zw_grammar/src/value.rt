@@ -28,6 +28,7 @@ use zw_lexer::Keyword;
 
 /// What goes on with a postfix at the front of a value.
 #[tactic(auto, using(zw_def_syntax::proofs::TurnLemmas::loop_ended, zw_def_syntax::proofs::TurnLemmas::loop_refused, zw_def_syntax::proofs::TurnLemmas::loop_gone_on, zw_def_syntax::proofs::TurnLemmas::loop_done))]
+#[inline(never)]
 pub(crate) fn plain_suffixes<
     't,
     F: Fn(Maker<'t>, &mut Cursor<'t>, usize, Within) -> Result<Read, MakeFault>,
@@ -132,6 +133,7 @@ pub(crate) fn behind_postfix<
 
 /// What a postfix at the front of a value is: a target, the front of a command, or an operand.
 #[tactic(auto, unfolding(zw_def_syntax::specs::Grammar::postfix_value))]
+#[inline(never)]
 pub(crate) fn postfix_value<
     't,
     F: Fn(Maker<'t>, &mut Cursor<'t>, usize, Within) -> Result<Read, MakeFault>,
@@ -151,6 +153,7 @@ pub(crate) fn postfix_value<
 
 /// `return` (11.5.2.4).
 #[tactic(auto, unfolding(zw_def_syntax::specs::Grammar::return_rule))]
+#[inline(never)]
 pub(crate) fn return_rule<
     't,
     F: Fn(Maker<'t>, &mut Cursor<'t>, usize, Within) -> Result<Read, MakeFault>,

@@ -6,6 +6,7 @@ mod deep;
 mod faults;
 mod forms;
 mod methods;
+mod neighbours;
 mod statements;
 mod values;
 
