@@ -114,7 +114,12 @@ const CASES: &[Case] = &[
     // The first wrong name in root order, and then in path order, files and directories alike. A root without files is
     // not refused. What stands in a directory with a wrong name stands in no namespace.
     Case {
-        roots: &[("o", "Object"), ("n", "Object"), ("m", "Object"), ("k", "Admin")],
+        roots: &[
+            ("o", "Object"),
+            ("n", "Object"),
+            ("m", "Object"),
+            ("k", "Admin"),
+        ],
         collapse: &["m/admin/parts"],
         files: &[
             "k/4th.rb",

@@ -126,7 +126,11 @@ impl Scan {
     }
 
     /// The path up to the first wrong name directly below the constant path, in root order and then in path order.
-    pub(crate) fn wrong_below(&self, alloc: Global, path: &CPath) -> Result<Option<Path>, AllocError>
+    pub(crate) fn wrong_below(
+        &self,
+        alloc: Global,
+        path: &CPath,
+    ) -> Result<Option<Path>, AllocError>
         ensures { IfOk result (λ wrong. (names : List Text) (layout : Shown) (tree : Files) →
             IsScan names layout tree self.now → IsDistinct names → AreNamed names path.now →
             wrong ≡ wrong_of layout tree (texts_of names path.now)) }

@@ -24,5 +24,5 @@ loop-claim-preserved c =
           ∙ ap (λ l. old ++ l) (sym (filter_map_told own (claim_seen later) c.args.claims.now c.loop-claim.claim-index c.claim-item.result c.loop-claim-test.true c.claim-item.is))),
       OnlyGrows-trans _ _ _ inv.1 grows,
       subst (All (IsFoundNamed names)) (sym c.in_ok-push_some.ensures)
-      (all_with (IsFoundNamed names) c.loop-claim.all.items c.in_ok-found.found (found_later c.loop-claim.names names grows c.loop-claim.all.items inv.2) c.in_ok-found.ensures.named),
+          (all_with (IsFoundNamed names) c.loop-claim.all.items c.in_ok-found.found (found_later c.loop-claim.names names grows c.loop-claim.all.items inv.2) c.in_ok-found.ensures.named),
     )

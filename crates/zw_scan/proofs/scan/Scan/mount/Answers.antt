@@ -25,8 +25,8 @@ returns-clause-scan c =
     let above = c.in_ok-above.ensures.told later grown tree c.is_tree.ensures paths in
     let roots = map (root_seen later) c.args.layout.now.roots.items in
     let first : AreFirst later layout tree c.in_ok-wrong.wrong = λ distinct q named.
-        ap (option_map (λ (f : Ranked). f.path)) (c.in_ok-wrong.ensures.told later more distinct q named
-        ∙ (λ i. first_below (texts_of later q) 0 None (map (misnamed_all layout ((ap (map (claim_seen later)) c.deref.ensures.value ∙ told) i) ((ap (map (claim_seen later)) c.deref-2.ensures.value ∙ above) i)) roots)))
-        ∙ first_is layout tree (texts_of later q) in
+    ap (option_map (λ (f : Ranked). f.path)) (c.in_ok-wrong.ensures.told later more distinct q named
+    ∙ (λ i. first_below (texts_of later q) 0 None (map (misnamed_all layout ((ap (map (claim_seen later)) c.deref.ensures.value ∙ told) i) ((ap (map (claim_seen later)) c.deref-2.ensures.value ∙ above) i)) roots)))
+    ∙ first_is layout tree (texts_of later q) in
     is later tree more told (ap (map (claim_seen later)) c.deref-3.ensures.value ∙ above) first)
     c.of-2.ensures.told

@@ -10,5 +10,5 @@ use Rattle.zw_scan.proofs.wrong.WrongTable.of.Given as goal
 abbrev pub invariant-loop-place : goal.invariant-loop-place
 invariant-loop-place l =
     ((later : List Text) → OnlyGrows l.names later → IsDistinct later → (q : List ℕ) → AreNamed later q →
-        first_at q l.table ≡ first_below (texts_of later q) 0 None (map (misnamed_all (layout_seen later l.layout) (map (claim_seen later) l.files) (map (claim_seen later) l.directories)) (map (root_seen later) (take l.place l.layout.roots.items)))) ×
+    first_at q l.table ≡ first_below (texts_of later q) 0 None (map (misnamed_all (layout_seen later l.layout) (map (claim_seen later) l.files) (map (claim_seen later) l.directories)) (map (root_seen later) (take l.place l.layout.roots.items)))) ×
     OnlyGrows l.fn.names l.names
