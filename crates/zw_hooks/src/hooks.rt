@@ -1,5 +1,5 @@
 //! Callbacks in the configuration's order.
-ghost use Rattle.std.specs.Prelude.{◌≡◌, ◌++◌, List, [], ◌∷◌, IfOk, OnOk, Some, map, if◌then◌else◌};
+ghost use Rattle.std.specs.Prelude.{◌≡◌, ◌++◌, List, [], ◌∷◌, IfOk, OnOk, Some, map, option_map, slice_get, if◌then◌else◌};
 ghost use Rattle.std.specs.List.{filter};
 ghost use Rattle.zw_def.specs.Text.{Text};
 ghost use Rattle.zw_def.specs.Names.{AreNamed, IsDistinct, texts_of};
@@ -28,7 +28,9 @@ fn push_if(places: &mut Vec<usize>, wanted: bool, place: usize) -> Result<(), Al
 
 impl Hooks {
     /// The callback at the place.
-    pub fn at(&self, place: usize) -> Option<&Hook> {
+    pub fn at(&self, place: usize) -> Option<&Hook>
+        ensures { option_map (λ h. h.now) result ≡ slice_get self.now.all.items place }
+    {
         self.all.get(place)
     }
 
