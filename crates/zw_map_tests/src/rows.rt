@@ -332,3 +332,37 @@ fn visible_files_are_told(rt: HostRuntime) -> Result<(), Fail> {
     assert!(&rt; !scan.visible(&Path::parse(alloc, "n/b.rb")?));
     Ok(())
 }
+
+/// Directories, and how many visible files stand below each in the tree of the test below.
+const COUNTS: &[(&str, usize)] = &[
+    ("m", 3),
+    ("m/a", 2),
+    ("m/a/c", 1),
+    ("m/a/c/d.rb", 0),
+    ("m/e", 0),
+    ("m/g", 0),
+    ("n", 0),
+];
+
+#[test]
+fn files_below_a_directory_are_counted(rt: HostRuntime) -> Result<(), Fail> {
+    let alloc = rt.alloc();
+    let mut names = Names::new(alloc)?;
+    let layout = layout(
+        alloc,
+        &mut names,
+        &Case {
+            ignore: &["m/g"],
+            ..PLAIN
+        },
+    )?;
+    let files = ["m/a/b.rb", "m/a/c/d.rb", "m/e.rb", "m/g/h.rb", "n/f.rb"];
+    let tree = tree(alloc, &files)?;
+    assert!(&rt; are_namespaces_named(&layout, &names));
+    let scan = Scan::mount(alloc, &layout, tree.staged(), &mut names)?;
+    for (text, count) in COUNTS {
+        let directory = Path::parse(alloc, text)?;
+        assert!(&rt; scan.files_below(&directory) == *count, "at {text}");
+    }
+    Ok(())
+}

@@ -12,3 +12,4 @@ pub mod ScanLemmas
 pub mod NameTableLemmas
 pub mod FirstLemmas
 pub mod WrongLemmas
+pub mod CountLemmas

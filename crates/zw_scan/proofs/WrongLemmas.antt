@@ -1,7 +1,7 @@
 -- The first wrong name of a namespace, from rows of files and directories with wrong names.
-use Rattle.std.proofs.Common.{◌≡◌, ℕ, zero, suc, ◌+◌, ◌<◌, ◌≤◌, Bool, true, false, not, ◌||◌, cond, nat_eq, List, [], ◌∷◌, ◌++◌, map, filter_map, length, take, drop, get_or, Option, Some, None, option_map, Result, Ok, Err, refl, ap, sym, ◌∙◌, arith, append_assoc, length-append, length-take-le}
-use Rattle.std.specs.List.{list_any, fold, filter, flat_map, cons_option, last_or}
-use Rattle.std.specs.Option.{option_map_or, option_and_then, option_or, unwrap_or}
+use Rattle.std.proofs.Common.{◌≡◌, ℕ, suc, ◌+◌, ◌<◌, ◌≤◌, Bool, true, false, not, ◌||◌, cond, nat_eq, List, [], ◌∷◌, ◌++◌, map, filter_map, length, take, drop, get_or, Option, Some, None, option_map, Result, Ok, Err, refl, ap, sym, ◌∙◌, arith, append_assoc, length-append, length-take-le}
+use Rattle.std.specs.List.{list_any, fold, filter, flat_map, cons_option}
+use Rattle.std.specs.Option.{option_map_or, option_and_then, option_or}
 use Rattle.std.specs.Cmp.Lexicographic.{lists_equiv, nat_list_eq_equiv}
 use Rattle.std.proofs.lemmas.Bool.{eqb-true, eq-eqb, false_from_ne_true}
 use Rattle.std.proofs.lemmas.List.{map-append, take_more, length-map, drop-append-le, take-append-le, take-append-drop}
@@ -16,11 +16,11 @@ use Rattle.zw_def.specs.Inflector.{constant_inflected}
 use Rattle.zw_def.specs.Layout.{Layout, Root, root_of, belongs_to, is_collapsed}
 use Rattle.zw_def.specs.Visible.{keys_of, is_visible, visible_files, counting_directories, in_root_order}
 use Rattle.zw_def.specs.Expected.{Expected, WrongName, named, named_by, named_directory, then_named, namespace_from, namespace_of, last_part, expected_path, directory_path}
-use Rattle.zw_def.specs.Map.{Expecting, expecting_at, all_expecting, paths_of, named_directories}
+use Rattle.zw_def.specs.Map.{Expecting, expecting_at, all_expecting, paths_of}
 use Rattle.zw_def.specs.Wrong.{is_namespace_path, is_directly_below, wrong_name_of, wrong_name_at, wrong_names, earlier, first_of_root, first_wrong, wrong_below}
 use Rattle.zw_def.proofs.PathLemmas.{same_path-Decides}
 use Rattle.zw_layout.specs.Above.{namespace_above}
-use Rattle.zw_scan.specs.ClaimTold.{ClaimTold, told_with, told_at, file_told, files_told, directories_told}
+use Rattle.zw_scan.specs.ClaimTold.{ClaimTold, told_with, told_at, files_told, directories_told}
 use Rattle.zw_scan.specs.Children.{wrong_of}
 use Rattle.zw_scan.specs.Wrong.{Ranked, ranked, better, first_below, misnamed, misnamed_in, misnamed_all}
 use Rattle.zw_scan.proofs.BeginningLemmas.{below_shorter, below_take}

@@ -16,6 +16,7 @@ use Rattle.zw_scan.specs.Table.{paths_at, paths_found}
 use Rattle.zw_scan.specs.Children.{names_below, wrong_of}
 use Rattle.zw_scan.specs.NameTable.{AreEntries, texts_at}
 use Rattle.zw_scan.specs.WrongTable.{first_at}
+use Rattle.zw_scan.specs.FileCount.{count_of, files_below}
 use Rattle.zw_scan.specs.declared.wrong.WrongTable.{WrongTable}
 use Rattle.zw_scan.specs.declared.scan.Scan.{Scan}
 
@@ -42,3 +43,4 @@ pub record IsScan (names : List Text) (layout : Layout) (tree : Tree) (scan : Sc
   pub below : IsDistinct names → (q : List ℕ) → AreNamed names q → texts_at q scan.below ≡ names_below (texts_of names q) (names_of (expecting_files layout tree) ++ names_of (expecting_directories layout tree))
   pub entries : AreEntries names scan.below
   pub wrong : AreFirst names layout tree scan.wrong
+  pub counted : (d : Path) → count_of scan.counts d ≡ files_below layout tree d

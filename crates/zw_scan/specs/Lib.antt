@@ -9,5 +9,6 @@ pub mod Children
 pub mod NameTable
 pub mod Wrong
 pub mod WrongTable
+pub mod FileCount
 pub mod ChildSeen
 pub mod IsScan

@@ -7,6 +7,7 @@
 mod children;
 mod claim;
 mod directory;
+mod file_count;
 mod found;
 mod name_table;
 mod scan;

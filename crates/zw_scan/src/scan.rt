@@ -16,10 +16,12 @@ ghost use Rattle.zw_scan.specs.ClaimSeen.{IsNamed, claim_seen};
 ghost use Rattle.zw_scan.specs.FoundSeen.{IsFoundNamed, found_seen};
 ghost use Rattle.zw_scan.specs.Children.{wrong_of};
 ghost use Rattle.zw_scan.specs.ChildSeen.{AreBelow};
+ghost use Rattle.zw_scan.specs.FileCount.{files_below};
 ghost use Rattle.zw_scan.specs.IsScan.{AreFirst, IsScan, IsScanNamed};
 
 use crate::claim::Claim;
 use crate::directory::seen_directories;
+use crate::file_count::FileCounts;
 use crate::found::{Found, in_order, in_root_order};
 use crate::name_table::NameTable;
 use crate::seen_file::seen_files;
@@ -44,6 +46,7 @@ pub struct Scan {
     directories_at: PathTable,
     below: NameTable,
     wrong: WrongTable,
+    counts: FileCounts,
 }
 
 /// The paths of the claims.
@@ -104,6 +107,7 @@ impl Scan {
         let files_at = PathTable::of(alloc, &files)?;
         let directories_at = PathTable::of(alloc, &directories)?;
         let below = NameTable::of(alloc, names, &files, &directories)?;
+        let counts = FileCounts::of(alloc, &claims)?;
         Ok(Scan {
             claims,
             visible,
@@ -113,6 +117,7 @@ impl Scan {
             directories_at,
             below,
             wrong,
+            counts,
         })
     }
 
@@ -144,6 +149,14 @@ impl Scan {
             result ≡ list_any (same_path path.now) (visible_files layout tree) }
     {
         self.visible.contains(path)
+    }
+
+    /// How many visible files stand below the directory, at any depth, those of roots nested in it among them.
+    pub fn files_below(&self, directory: &Path) -> usize
+        ensures { (names : List Text) (layout : Shown) (tree : Files) → IsScan names layout tree self.now →
+            result ≡ files_below layout tree directory.now }
+    {
+        self.counts.at(directory)
     }
 
     /// The visible files in path order, and what each is expected to define.

@@ -1,4 +1,4 @@
-use Rattle.std.proofs.Common.{Some, None, Ok, Err, cond, ap, sym, ◌∙◌}
+use Rattle.std.proofs.Common.{Some, None, cond, ap, sym, ◌∙◌}
 use Rattle.zw_def.specs.Names.{texts_of}
 use Rattle.zw_def.specs.Map.{Expecting}
 use Rattle.zw_inflect.specs.Layout.{layout_seen, root_seen}

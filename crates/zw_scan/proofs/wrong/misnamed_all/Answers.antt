@@ -1,4 +1,4 @@
-use Rattle.std.proofs.Common.{◌++◌, [], map, filter_map, ap, ◌∙◌}
+use Rattle.std.proofs.Common.{◌++◌, map, filter_map, ap, ◌∙◌}
 use Rattle.zw_def.proofs.NameLemmas.{OnlyGrows-trans}
 use Rattle.zw_inflect.specs.Layout.{layout_seen, root_seen}
 use Rattle.zw_scan.specs.Wrong as told

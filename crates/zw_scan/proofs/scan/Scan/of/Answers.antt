@@ -8,6 +8,7 @@ use Rattle.zw_inflect.specs.Layout.{layout_seen}
 use Rattle.zw_scan.specs.ClaimSeen.{IsNamed, claim_seen}
 use Rattle.zw_scan.specs.Children.{names_below}
 use Rattle.zw_scan.specs.Table.{paths_found}
+use Rattle.zw_scan.specs.FileCount.{count_below}
 use Rattle.zw_scan.specs.FoundTold.{found_told, own_all}
 use Rattle.zw_scan.proofs.ClaimLemmas.{seen_paths}
 use Rattle.zw_scan.proofs.ScanLemmas.{named_later, entries_later, names_found}
@@ -45,4 +46,5 @@ returns-clause-told c names tree grows told above_told first =
           ++ (ap (map (λ f. texts_of names f.names)) c.deref-6.ensures.value ∙ names_found names c.in_ok-directories.directories.items ∙ ap names_of directories) i));
       entries = entries_later c.args.names.now names grows c.in_ok-below.below c.in_ok-below.ensures.entries;
       wrong = first;
+      counted = λ d. c.in_ok-counts.ensures d ∙ ap (λ cs. count_below (map (λ c. c.path) cs) d) c.deref-7.ensures.value ∙ ap (λ ps. count_below ps d) (seen_paths (λ f. f.path) (claim_seen names) c.args.claims.items layout (keys_of tree) (λ f. refl) told);
     }
