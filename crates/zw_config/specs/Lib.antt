@@ -1,0 +1,4 @@
+pub mod Fault
+pub mod Root
+pub mod Callback
+pub mod Config
