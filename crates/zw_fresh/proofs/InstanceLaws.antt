@@ -57,7 +57,7 @@ first_setups : (setting : WorldSetting) → (core_world setting).setups ≡ 0
 unfolding core_world
 first_setups setting = refl
 
-world_past : (setting : WorldSetting) → Past (core_world setting)
+pub world_past : (setting : WorldSetting) → Past (core_world setting)
 unfolding core_world
 world_past setting = record {
   modules = records_past core_modules (refl, (refl, (refl, (refl, (refl, (refl, (refl, (refl, (refl, (refl, (refl, (refl, (refl, (refl, (refl, (refl, (refl, (refl, (refl, (refl, (refl, (refl, (refl, (refl, (refl, (refl, (refl, (refl, (refl, (refl, tt))))))))))))))))))))))))))))));

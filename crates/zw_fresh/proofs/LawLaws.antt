@@ -27,7 +27,7 @@ use Rattle.zw_fresh.proofs.CommandLaws.{eager_after_setup_same, eager_keys_same,
 -- ---- commands
 
 module _ {S : Setting false} {old : Text → Bool} where
-  answer_same : (c : Command) → IsTold old c → (s s' : Session) → Sessions S old s s' → Sessions S old (answer c s) (answer c s')
+  pub answer_same : (c : Command) → IsTold old c → (s s' : Session) → Sessions S old s s' → Sessions S old (answer c s) (answer c s')
   answer_same (put path text) h s s' P = put_same path text s s' P
   answer_same (del path) h s s' P = del_same path s s' P
   answer_same (run text) h s s' P = unless_down_same _ _ (run_same text h) s s' P
@@ -59,7 +59,7 @@ met_so {A} g o o' e = subst (Met false (λ x y. y ≡ g x) o) (sym e) (at o)
     at None = tt
     at (Some x) = refl
 
-from_image : (image w : World) (front front' : Text) {tree : Tree} → CameFrom image w tree → FromImage image w tree front front'
+pub from_image : (image w : World) (front front' : Text) {tree : Tree} → CameFrom image w tree → FromImage image w tree front front'
 from_image image w front front' C = record {
   first = C.first;
   none = C.none;

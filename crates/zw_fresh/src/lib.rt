@@ -3,10 +3,16 @@
 //! stands on the definitions of evaluation and of sessions alone, has no code, and no code carries the law yet.
 //!
 //! Two worlds are alike where they differ in the numbers of their setups and in what is older alone (`specs/`); each
-//! kind of node, each primitive method, look-up, load and callback keeps them alike (`proofs/`). It promises the law of
-//! `reload_is_fresh`, for all commands but a second `reload` and `check`.
+//! kind of node, each primitive method, look-up, load and callback keeps them alike (`proofs/`). `reload_is_fresh` states
+//! the law for a world that came from an image, and all commands but a second `reload` and `check`. `reached_is_fresh`
+//! states it for each session that commands reach from an opening, `reload_is_opening` and `reload_serves_as_opening` for
+//! two processes that open, one of which reloads; these three for all commands.
 #![tactic(auto)]
 
+mod again;
 mod law;
+mod reached;
 
+pub use again::{reload_is_opening, reload_serves_as_opening};
 pub use law::reload_is_fresh;
+pub use reached::reached_is_fresh;
