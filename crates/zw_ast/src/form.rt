@@ -9,7 +9,7 @@ ghost use Rattle.zw_ast.specs.Named.{IsName, IsNamed, AreNamed, AreNames, greate
 ghost use Rattle.zw_ast.specs.Node.{name_seen, method_seen};
 ghost use Rattle.zw_ast.specs.Part.{segment_seen, clause_seen, clauses_seen, optional_seen, params_seen, path_seen, branch_seen, superclass_seen, rescues_row_seen, defaults_row_seen, branch_row_seen, parts_row_seen, segment_names, clause_names, clauses_names, optional_names, params_names, path_names, branch_names, perhaps_row_seen, superclass_names};
 
-use crate::grown::{Grown, MakeFault};
+use crate::grown::{Built, Grown, MakeFault};
 use crate::maker::Maker;
 use crate::node::{Base, Default, MethodName, Node, Part, Rescue};
 use crate::part::{Clauses, ConstantPath, Optional, Params, RescueClause, Segment};
@@ -58,7 +58,7 @@ impl<'t> Maker<'t> {
             height = height.max(one.value.height);
             defaults.push(Default {
                 name: one.name,
-                value: one.value.form,
+                value: one.value.form.into_inner(),
             })?;
         }
         Ok(Grown {
@@ -68,10 +68,7 @@ impl<'t> Maker<'t> {
     }
 
     #[inline(never)]
-    fn branch(
-        &self,
-        branch: Option<Vec<Grown<Node>>>,
-    ) -> Result<Grown<Option<Items<Node>>>, AllocError>
+    fn branch(&self, branch: Option<Vec<Built>>) -> Result<Grown<Option<Items<Node>>>, AllocError>
         ensures told { IfOk result
             (λ g. c.branch_of (branch_seen self.now.names.now branch)
             ≡ branch_row_seen self.now.names.now g) }
@@ -94,7 +91,7 @@ impl<'t> Maker<'t> {
 
     /// A body with clauses (11.5.2.5).
     #[inline(never)]
-    pub fn clauses(&self, clauses: Clauses) -> Result<Grown<Node>, MakeFault>
+    pub fn clauses(&self, clauses: Clauses) -> Result<Built, MakeFault>
         requires named { clauses_names clauses ≤ length self.now.names.now }
         ensures told { Gives (grown_seen self.now.names.now)
             (c.clauses_tree (clauses_seen self.now.names.now clauses)) result }
@@ -144,11 +141,7 @@ impl<'t> Maker<'t> {
 
     /// A text with interpolations: each with the text before it, and the last text (8.7.6.3).
     #[inline(never)]
-    pub fn interpolation(
-        &self,
-        segments: Vec<Segment>,
-        last: String,
-    ) -> Result<Grown<Node>, MakeFault>
+    pub fn interpolation(&self, segments: Vec<Segment>, last: String) -> Result<Built, MakeFault>
         requires named { greatest segment_names segments.items ≤ length self.now.names.now }
         ensures told { Gives (grown_seen self.now.names.now)
             (t.over t.interp_node
@@ -160,7 +153,7 @@ impl<'t> Maker<'t> {
     }
 
     /// `begin .. end` (11.5.2.5).
-    pub fn begin_form(&self, clauses: Clauses) -> Result<Grown<Node>, MakeFault>
+    pub fn begin_form(&self, clauses: Clauses) -> Result<Built, MakeFault>
         requires named { clauses_names clauses ≤ length self.now.names.now }
         ensures told { Gives (grown_seen self.now.names.now)
             (c.begin_tree (clauses_seen self.now.names.now clauses)) result }
@@ -186,7 +179,7 @@ impl<'t> Maker<'t> {
         }
         let whole = self.clauses(clauses)?;
         let mut body = Items::new(self.alloc);
-        body.push(whole.form)?;
+        body.push(whole.form.into_inner())?;
         Ok(Grown {
             form: body,
             height: whole.height,
@@ -201,7 +194,7 @@ impl<'t> Maker<'t> {
         name: MethodName,
         params: Params,
         clauses: Clauses,
-    ) -> Result<Grown<Node>, MakeFault>
+    ) -> Result<Built, MakeFault>
         requires name { after_method name ≤ length self.now.names.now }
         requires params { params_names params ≤ length self.now.names.now }
         requires clauses { clauses_names clauses ≤ length self.now.names.now }
@@ -222,7 +215,7 @@ impl<'t> Maker<'t> {
     }
 
     #[inline(never)]
-    fn boxed(&self, node: Option<Grown<Node>>) -> Result<Grown<Option<Boxed<Node>>>, AllocError>
+    fn boxed(&self, node: Option<Built>) -> Result<Grown<Option<Boxed<Node>>>, AllocError>
         ensures told { IfOk result
             (λ g. superclass_seen self.now.names.now node ≡ perhaps_row_seen self.now.names.now g) }
         ensures named { IfOk result (λ g. if_any bound_of g.form ≡ superclass_names node) }
@@ -234,7 +227,7 @@ impl<'t> Maker<'t> {
             }),
             Some(node) => Ok(Grown {
                 height: node.height,
-                form: Some(Boxed::new(self.alloc, node.form)?),
+                form: Some(node.form),
             }),
         }
     }
@@ -244,9 +237,9 @@ impl<'t> Maker<'t> {
     pub fn class(
         &self,
         path: ConstantPath,
-        superclass: Option<Grown<Node>>,
-        body: Vec<Grown<Node>>,
-    ) -> Result<Grown<Node>, MakeFault>
+        superclass: Option<Built>,
+        body: Vec<Built>,
+    ) -> Result<Built, MakeFault>
         requires path { path_names path ≤ length self.now.names.now }
         requires superclass { superclass_names superclass ≤ length self.now.names.now }
         requires body { AreNamed self.now.names.now body.items }
@@ -265,11 +258,7 @@ impl<'t> Maker<'t> {
 
     /// A module (13.1.2).
     #[inline(never)]
-    pub fn module(
-        &self,
-        path: ConstantPath,
-        body: Vec<Grown<Node>>,
-    ) -> Result<Grown<Node>, MakeFault>
+    pub fn module(&self, path: ConstantPath, body: Vec<Built>) -> Result<Built, MakeFault>
         requires path { path_names path ≤ length self.now.names.now }
         requires body { AreNamed self.now.names.now body.items }
         ensures told { Gives (grown_seen self.now.names.now)
@@ -283,7 +272,7 @@ impl<'t> Maker<'t> {
     }
 
     /// The path of a constant as a node (11.5.4.2).
-    pub fn path(&self, path: ConstantPath) -> Result<Grown<Node>, MakeFault>
+    pub fn path(&self, path: ConstantPath) -> Result<Built, MakeFault>
         requires named { path_names path ≤ length self.now.names.now }
         ensures told { Gives (grown_seen self.now.names.now) (c.path_node (path_seen self.now.names.now path))
             result }

@@ -1,4 +1,6 @@
 //! Nodes with their heights.
+use crate::node::Node;
+use sqlite_items::Boxed;
 use thiserror::Error;
 use zw_base::Fault;
 
@@ -8,6 +10,9 @@ pub struct Grown<T> {
     pub form: T,
     pub height: u8,
 }
+
+/// A node with its height. It is held by a box from the start, so that what hands it on moves a few words only.
+pub type Built = Grown<Boxed<Node>>;
 
 /// No node may be higher.
 pub(crate) const MAX_HEIGHT: u8 = 100;

@@ -4,7 +4,7 @@ ghost use Rattle.zw_def.specs.Text.{Text};
 ghost use Rattle.zw_def_syntax.specs.Compound.{is_bare};
 ghost use Rattle.zw_ast.specs.Part.{clauses_seen};
 
-use crate::grown::Grown;
+use crate::grown::{Built, Grown};
 use crate::node::{Base, Node};
 use zw_names::Name;
 
@@ -12,31 +12,31 @@ use zw_names::Name;
 #[derive(Drop)]
 pub struct Segment {
     pub text: String,
-    pub program: Vec<Grown<Node>>,
+    pub program: Vec<Built>,
 }
 
 /// `rescue` with its paths, its variable and its statements (11.5.2.5).
 #[derive(Drop)]
 pub struct RescueClause {
-    pub paths: Vec<Grown<Node>>,
+    pub paths: Vec<Built>,
     pub variable: Option<Name>,
-    pub body: Vec<Grown<Node>>,
+    pub body: Vec<Built>,
 }
 
 /// The statements of a body, its rescue clauses, and what stands after `else` and `ensure` (11.5.2.5).
 #[derive(Drop)]
 pub struct Clauses {
-    pub body: Vec<Grown<Node>>,
+    pub body: Vec<Built>,
     pub rescues: Vec<RescueClause>,
-    pub other: Option<Vec<Grown<Node>>>,
-    pub ensured: Option<Vec<Grown<Node>>>,
+    pub other: Option<Vec<Built>>,
+    pub ensured: Option<Vec<Built>>,
 }
 
 /// A parameter with its default (13.3.2).
 #[derive(Drop)]
 pub struct Optional {
     pub name: Name,
-    pub value: Grown<Node>,
+    pub value: Built,
 }
 
 /// The parameters of a method: those that a call must give, and those with a default (13.3.2).

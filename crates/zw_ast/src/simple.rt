@@ -8,16 +8,15 @@ ghost use Rattle.zw_ast.specs.Grown.{grown_seen, all_seen};
 ghost use Rattle.zw_ast.specs.Named.{IsName, IsNamed, AreNamed};
 ghost use Rattle.zw_ast.specs.Node.{name_seen, order_seen};
 
-use crate::grown::{Grown, MakeFault};
+use crate::grown::{Built, MakeFault};
 use crate::maker::Maker;
 use crate::node::{Node, Order};
-use sqlite_items::Boxed;
 use zw_names::Name;
 
 impl<'t> Maker<'t> {
     /// `x = e` (11.4.2).
     #[inline(never)]
-    pub fn set_local(&self, name: Name, value: Grown<Node>) -> Result<Grown<Node>, MakeFault>
+    pub fn set_local(&self, name: Name, value: Built) -> Result<Built, MakeFault>
         requires name { IsName self.now.names.now name }
         requires value { IsNamed self.now.names.now value }
         ensures told { Gives (grown_seen self.now.names.now)
@@ -26,19 +25,12 @@ impl<'t> Maker<'t> {
         ensures named { IfOk result (IsNamed self.now.names.now) }
     {
         let height = value.height;
-        self.raise(
-            Node::SetLocal(name, Boxed::new(self.alloc, value.form)?),
-            height,
-        )
+        self.raise(Node::SetLocal(name, value.form), height)
     }
 
     /// `@x = e`.
     #[inline(never)]
-    pub fn set_instance_variable(
-        &self,
-        name: Name,
-        value: Grown<Node>,
-    ) -> Result<Grown<Node>, MakeFault>
+    pub fn set_instance_variable(&self, name: Name, value: Built) -> Result<Built, MakeFault>
         requires name { IsName self.now.names.now name }
         requires value { IsNamed self.now.names.now value }
         ensures told { Gives (grown_seen self.now.names.now)
@@ -47,19 +39,12 @@ impl<'t> Maker<'t> {
         ensures named { IfOk result (IsNamed self.now.names.now) }
     {
         let height = value.height;
-        self.raise(
-            Node::SetInstanceVariable(name, Boxed::new(self.alloc, value.form)?),
-            height,
-        )
+        self.raise(Node::SetInstanceVariable(name, value.form), height)
     }
 
     /// `@@x = e`.
     #[inline(never)]
-    pub fn set_class_variable(
-        &self,
-        name: Name,
-        value: Grown<Node>,
-    ) -> Result<Grown<Node>, MakeFault>
+    pub fn set_class_variable(&self, name: Name, value: Built) -> Result<Built, MakeFault>
         requires name { IsName self.now.names.now name }
         requires value { IsNamed self.now.names.now value }
         ensures told { Gives (grown_seen self.now.names.now)
@@ -68,15 +53,12 @@ impl<'t> Maker<'t> {
         ensures named { IfOk result (IsNamed self.now.names.now) }
     {
         let height = value.height;
-        self.raise(
-            Node::SetClassVariable(name, Boxed::new(self.alloc, value.form)?),
-            height,
-        )
+        self.raise(Node::SetClassVariable(name, value.form), height)
     }
 
     /// `N = e`.
     #[inline(never)]
-    pub fn set_constant(&self, name: Name, value: Grown<Node>) -> Result<Grown<Node>, MakeFault>
+    pub fn set_constant(&self, name: Name, value: Built) -> Result<Built, MakeFault>
         requires name { IsName self.now.names.now name }
         requires value { IsNamed self.now.names.now value }
         ensures told { Gives (grown_seen self.now.names.now)
@@ -85,15 +67,12 @@ impl<'t> Maker<'t> {
         ensures named { IfOk result (IsNamed self.now.names.now) }
     {
         let height = value.height;
-        self.raise(
-            Node::SetConst(name, Boxed::new(self.alloc, value.form)?),
-            height,
-        )
+        self.raise(Node::SetConst(name, value.form), height)
     }
 
     /// `e::N` (11.5.4.2).
     #[inline(never)]
-    pub fn scoped(&self, base: Grown<Node>, name: Name) -> Result<Grown<Node>, MakeFault>
+    pub fn scoped(&self, base: Built, name: Name) -> Result<Built, MakeFault>
         requires base { IsNamed self.now.names.now base }
         requires name { IsName self.now.names.now name }
         ensures told { Gives (grown_seen self.now.names.now)
@@ -102,20 +81,12 @@ impl<'t> Maker<'t> {
         ensures named { IfOk result (IsNamed self.now.names.now) }
     {
         let height = base.height;
-        self.raise(
-            Node::Scoped(Boxed::new(self.alloc, base.form)?, name),
-            height,
-        )
+        self.raise(Node::Scoped(base.form, name), height)
     }
 
     /// `b::N = e`.
     #[inline(never)]
-    pub fn set_scoped(
-        &self,
-        base: Grown<Node>,
-        name: Name,
-        value: Grown<Node>,
-    ) -> Result<Grown<Node>, MakeFault>
+    pub fn set_scoped(&self, base: Built, name: Name, value: Built) -> Result<Built, MakeFault>
         requires base { IsNamed self.now.names.now base }
         requires name { IsName self.now.names.now name }
         requires value { IsNamed self.now.names.now value }
@@ -125,24 +96,17 @@ impl<'t> Maker<'t> {
         ensures named { IfOk result (IsNamed self.now.names.now) }
     {
         let height = base.height.max(value.height);
-        self.raise(
-            Node::SetScoped(
-                Boxed::new(self.alloc, base.form)?,
-                name,
-                Boxed::new(self.alloc, value.form)?,
-            ),
-            height,
-        )
+        self.raise(Node::SetScoped(base.form, name, value.form), height)
     }
 
     /// `r.x = e`.
     #[inline(never)]
     pub fn set_attribute(
         &self,
-        receiver: Grown<Node>,
+        receiver: Built,
         name: Name,
-        value: Grown<Node>,
-    ) -> Result<Grown<Node>, MakeFault>
+        value: Built,
+    ) -> Result<Built, MakeFault>
         requires receiver { IsNamed self.now.names.now receiver }
         requires name { IsName self.now.names.now name }
         requires value { IsNamed self.now.names.now value }
@@ -152,35 +116,24 @@ impl<'t> Maker<'t> {
         ensures named { IfOk result (IsNamed self.now.names.now) }
     {
         let height = receiver.height.max(value.height);
-        self.raise(
-            Node::SetAttribute(
-                Boxed::new(self.alloc, receiver.form)?,
-                name,
-                Boxed::new(self.alloc, value.form)?,
-            ),
-            height,
-        )
+        self.raise(Node::SetAttribute(receiver.form, name, value.form), height)
     }
 
     /// `!e` and `not e` (11.2.2 and 11.2.5).
     #[inline(never)]
-    pub fn negation(&self, value: Grown<Node>) -> Result<Grown<Node>, MakeFault>
+    pub fn negation(&self, value: Built) -> Result<Built, MakeFault>
         requires value { IsNamed self.now.names.now value }
         ensures told { Gives (grown_seen self.now.names.now)
             (t.over t.not_node (grown_seen self.now.names.now value)) result }
         ensures named { IfOk result (IsNamed self.now.names.now) }
     {
         let height = value.height;
-        self.raise(Node::Not(Boxed::new(self.alloc, value.form)?), height)
+        self.raise(Node::Not(value.form), height)
     }
 
     /// `a && b` and `a and b` (11.2.3).
     #[inline(never)]
-    pub fn conjunction(
-        &self,
-        left: Grown<Node>,
-        right: Grown<Node>,
-    ) -> Result<Grown<Node>, MakeFault>
+    pub fn conjunction(&self, left: Built, right: Built) -> Result<Built, MakeFault>
         requires left { IsNamed self.now.names.now left }
         requires right { IsNamed self.now.names.now right }
         ensures told { Gives (grown_seen self.now.names.now)
@@ -189,22 +142,12 @@ impl<'t> Maker<'t> {
         ensures named { IfOk result (IsNamed self.now.names.now) }
     {
         let height = left.height.max(right.height);
-        self.raise(
-            Node::And(
-                Boxed::new(self.alloc, left.form)?,
-                Boxed::new(self.alloc, right.form)?,
-            ),
-            height,
-        )
+        self.raise(Node::And(left.form, right.form), height)
     }
 
     /// `a || b` and `a or b` (11.2.4).
     #[inline(never)]
-    pub fn disjunction(
-        &self,
-        left: Grown<Node>,
-        right: Grown<Node>,
-    ) -> Result<Grown<Node>, MakeFault>
+    pub fn disjunction(&self, left: Built, right: Built) -> Result<Built, MakeFault>
         requires left { IsNamed self.now.names.now left }
         requires right { IsNamed self.now.names.now right }
         ensures told { Gives (grown_seen self.now.names.now)
@@ -213,33 +156,24 @@ impl<'t> Maker<'t> {
         ensures named { IfOk result (IsNamed self.now.names.now) }
     {
         let height = left.height.max(right.height);
-        self.raise(
-            Node::Or(
-                Boxed::new(self.alloc, left.form)?,
-                Boxed::new(self.alloc, right.form)?,
-            ),
-            height,
-        )
+        self.raise(Node::Or(left.form, right.form), height)
     }
 
     /// `return e` (11.5.2.4).
     #[inline(never)]
-    pub fn return_value(&self, value: Grown<Node>) -> Result<Grown<Node>, MakeFault>
+    pub fn return_value(&self, value: Built) -> Result<Built, MakeFault>
         requires value { IsNamed self.now.names.now value }
         ensures told { Gives (grown_seen self.now.names.now)
             (t.over (λ v. t.return_node (t.present v)) (grown_seen self.now.names.now value)) result }
         ensures named { IfOk result (IsNamed self.now.names.now) }
     {
         let height = value.height;
-        self.raise(
-            Node::Return(Some(Boxed::new(self.alloc, value.form)?)),
-            height,
-        )
+        self.raise(Node::Return(Some(value.form)), height)
     }
 
     /// `[a, b]` (11.5.5).
     #[inline(never)]
-    pub fn array(&self, items: Vec<Grown<Node>>) -> Result<Grown<Node>, MakeFault>
+    pub fn array(&self, items: Vec<Built>) -> Result<Built, MakeFault>
         requires items { AreNamed self.now.names.now items.items }
         ensures told { Gives (grown_seen self.now.names.now)
             (t.over t.array_node (t.row_of (all_seen self.now.names.now items.items))) result }
@@ -252,7 +186,7 @@ impl<'t> Maker<'t> {
 
     /// `begin .. end` without clauses, and parentheses round none or several statements.
     #[inline(never)]
-    pub fn sequence(&self, statements: Vec<Grown<Node>>) -> Result<Grown<Node>, MakeFault>
+    pub fn sequence(&self, statements: Vec<Built>) -> Result<Built, MakeFault>
         requires statements { AreNamed self.now.names.now statements.items }
         ensures told { Gives (grown_seen self.now.names.now)
             (t.over t.seq_node (t.row_of (all_seen self.now.names.now statements.items))) result }
@@ -265,7 +199,7 @@ impl<'t> Maker<'t> {
 
     /// A call on `self` (11.3).
     #[inline(never)]
-    pub fn self_call(&self, name: Name, args: Vec<Grown<Node>>) -> Result<Grown<Node>, MakeFault>
+    pub fn self_call(&self, name: Name, args: Vec<Built>) -> Result<Built, MakeFault>
         requires name { IsName self.now.names.now name }
         requires args { AreNamed self.now.names.now args.items }
         ensures told { Gives (grown_seen self.now.names.now)
@@ -280,7 +214,7 @@ impl<'t> Maker<'t> {
 
     /// `super` with arguments (11.3.4).
     #[inline(never)]
-    pub fn super_call(&self, args: Vec<Grown<Node>>) -> Result<Grown<Node>, MakeFault>
+    pub fn super_call(&self, args: Vec<Built>) -> Result<Built, MakeFault>
         requires args { AreNamed self.now.names.now args.items }
         ensures told { Gives (grown_seen self.now.names.now)
             (t.over t.super_node (t.row_of (all_seen self.now.names.now args.items))) result }
@@ -293,12 +227,7 @@ impl<'t> Maker<'t> {
 
     /// A call with a receiver (11.3).
     #[inline(never)]
-    pub fn call(
-        &self,
-        receiver: Grown<Node>,
-        name: Name,
-        args: Vec<Grown<Node>>,
-    ) -> Result<Grown<Node>, MakeFault>
+    pub fn call(&self, receiver: Built, name: Name, args: Vec<Built>) -> Result<Built, MakeFault>
         requires receiver { IsNamed self.now.names.now receiver }
         requires name { IsName self.now.names.now name }
         requires args { AreNamed self.now.names.now args.items }
@@ -309,10 +238,7 @@ impl<'t> Maker<'t> {
     {
         let args = self.row(args)?;
         let height = receiver.height.max(args.height);
-        self.raise(
-            Node::Call(Boxed::new(self.alloc, receiver.form)?, name, args.form),
-            height,
-        )
+        self.raise(Node::Call(receiver.form, name, args.form), height)
     }
 
     /// A test, the body where it holds, and the body where it does not (11.5.2.2).
@@ -320,10 +246,10 @@ impl<'t> Maker<'t> {
     pub fn choice(
         &self,
         order: Order,
-        test: Grown<Node>,
-        then: Vec<Grown<Node>>,
-        other: Vec<Grown<Node>>,
-    ) -> Result<Grown<Node>, MakeFault>
+        test: Built,
+        then: Vec<Built>,
+        other: Vec<Built>,
+    ) -> Result<Built, MakeFault>
         requires test { IsNamed self.now.names.now test }
         requires then { AreNamed self.now.names.now then.items }
         requires other { AreNamed self.now.names.now other.items }
@@ -336,15 +262,7 @@ impl<'t> Maker<'t> {
         let then = self.row(then)?;
         let other = self.row(other)?;
         let height = test.height.max(then.height).max(other.height);
-        self.raise(
-            Node::If(
-                order,
-                Boxed::new(self.alloc, test.form)?,
-                then.form,
-                other.form,
-            ),
-            height,
-        )
+        self.raise(Node::If(order, test.form, then.form, other.form), height)
     }
 
     /// `while` (11.5.2.3).
@@ -352,9 +270,9 @@ impl<'t> Maker<'t> {
     pub fn repetition(
         &self,
         order: Order,
-        test: Grown<Node>,
-        body: Vec<Grown<Node>>,
-    ) -> Result<Grown<Node>, MakeFault>
+        test: Built,
+        body: Vec<Built>,
+    ) -> Result<Built, MakeFault>
         requires test { IsNamed self.now.names.now test }
         requires body { AreNamed self.now.names.now body.items }
         ensures told { Gives (grown_seen self.now.names.now)
@@ -364,9 +282,6 @@ impl<'t> Maker<'t> {
     {
         let body = self.row(body)?;
         let height = test.height.max(body.height);
-        self.raise(
-            Node::While(order, Boxed::new(self.alloc, test.form)?, body.form),
-            height,
-        )
+        self.raise(Node::While(order, test.form, body.form), height)
     }
 }

@@ -13,11 +13,11 @@ ghost use Rattle.zw_compound.specs.Part as part;
 
 use crate::choice::Arm;
 use std::alloc::{AllocError, Global};
-use zw_ast::{Grown, MakeFault, Maker, Malformed, Node, Optional, Order, Params};
+use zw_ast::{Built, MakeFault, Maker, Malformed, Optional, Order, Params};
 use zw_names::Name;
 
 /// The statements behind a word, or none where it is not there.
-pub(crate) fn body_or_none(maker: &Maker<'_>, body: Option<Vec<Grown<Node>>>) -> Vec<Grown<Node>>
+pub(crate) fn body_or_none(maker: &Maker<'_>, body: Option<Vec<Built>>) -> Vec<Built>
     requires { branch_names body ≤ length maker.now.names.now }
     ensures told { (inner : Reader) → all_seen maker.now.names.now result.items
         ≡ spec.body_or_none inner (branch_seen maker.now.names.now body) }
@@ -31,7 +31,7 @@ pub(crate) fn body_or_none(maker: &Maker<'_>, body: Option<Vec<Grown<Node>>>) ->
 
 /// A node in a row of its own.
 #[inline(never)]
-pub fn only(alloc: Global, one: Grown<Node>) -> Result<Vec<Grown<Node>>, AllocError>
+pub fn only(alloc: Global, one: Built) -> Result<Vec<Built>, AllocError>
     ensures { IfOk result (λ all. all.items ≡ one ∷ []) }
 {
     let mut all = Vec::new(alloc);
@@ -39,7 +39,7 @@ pub fn only(alloc: Global, one: Grown<Node>) -> Result<Vec<Grown<Node>>, AllocEr
     Ok(all)
 }
 
-fn choice_of(maker: &Maker<'_>, arm: Arm, other: Vec<Grown<Node>>) -> Result<Grown<Node>, MakeFault>
+fn choice_of(maker: &Maker<'_>, arm: Arm, other: Vec<Built>) -> Result<Built, MakeFault>
     requires arm { arm_names arm ≤ length maker.now.names.now }
     requires other { AreNamed maker.now.names.now other.items }
     ensures told { Gives (grown_seen maker.now.names.now) (part.choice_of (arm_seen maker.now.names.now arm)
@@ -51,11 +51,7 @@ fn choice_of(maker: &Maker<'_>, arm: Arm, other: Vec<Grown<Node>>) -> Result<Gro
 
 // An arm and what stands behind it, as what stands in the `else` of the arm before it.
 #[inline(never)]
-fn else_of_one(
-    maker: &Maker<'_>,
-    arm: Arm,
-    other: Vec<Grown<Node>>,
-) -> Result<Vec<Grown<Node>>, MakeFault>
+fn else_of_one(maker: &Maker<'_>, arm: Arm, other: Vec<Built>) -> Result<Vec<Built>, MakeFault>
     requires arm { arm_names arm ≤ length maker.now.names.now }
     requires other { AreNamed maker.now.names.now other.items }
     ensures told { Gives (λ all. all_seen maker.now.names.now all.items) (part.else_of_one
@@ -71,8 +67,8 @@ fn else_of_one(
 fn else_of(
     maker: &Maker<'_>,
     mut arms: Vec<Arm>,
-    mut other: Vec<Grown<Node>>,
-) -> Result<Vec<Grown<Node>>, MakeFault>
+    mut other: Vec<Built>,
+) -> Result<Vec<Built>, MakeFault>
     requires arms { greatest arm_names arms.items ≤ length maker.now.names.now }
     requires other { AreNamed maker.now.names.now other.items }
     ensures told { Gives (λ all. all_seen maker.now.names.now all.items) (part.else_of
@@ -92,8 +88,8 @@ pub(crate) fn chosen(
     maker: &Maker<'_>,
     first: Arm,
     more: Vec<Arm>,
-    other: Vec<Grown<Node>>,
-) -> Result<Grown<Node>, MakeFault>
+    other: Vec<Built>,
+) -> Result<Built, MakeFault>
     requires first { arm_names first ≤ length maker.now.names.now }
     requires more { greatest arm_names more.items ≤ length maker.now.names.now }
     requires other { AreNamed maker.now.names.now other.items }
@@ -110,9 +106,9 @@ pub(crate) fn chosen(
 pub fn until(
     maker: &Maker<'_>,
     order: Order,
-    test: Grown<Node>,
-    body: Vec<Grown<Node>>,
-) -> Result<Grown<Node>, MakeFault>
+    test: Built,
+    body: Vec<Built>,
+) -> Result<Built, MakeFault>
     requires test { IsNamed maker.now.names.now test }
     requires body { AreNamed maker.now.names.now body.items }
     ensures told { Gives (grown_seen maker.now.names.now) (spec.until_tree (order_seen order)
@@ -150,7 +146,7 @@ pub(crate) fn with_default(
     maker: &Maker<'_>,
     mut params: Params,
     name: Name,
-    value: Grown<Node>,
+    value: Built,
 ) -> Result<Params, AllocError>
     requires params { params_names params ≤ length maker.now.names.now }
     requires name { IsName maker.now.names.now name }

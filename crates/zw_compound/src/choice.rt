@@ -16,15 +16,15 @@ ghost use Rattle.zw_compound.specs.Part as part;
 
 use crate::build::{body_or_none, chosen, until};
 use crate::separator::{do_word, then_word};
-use zw_ast::{Grown, MakeFault, Maker, Node, Order};
+use zw_ast::{Built, MakeFault, Maker, Order};
 use zw_expr::{Cursor, Form, Grammar, Read, Within};
 use zw_lexer::Keyword;
 
 /// A test, and the statements where it holds.
 #[derive(Drop)]
 pub(crate) struct Arm {
-    pub(crate) test: Grown<Node>,
-    pub(crate) body: Vec<Grown<Node>>,
+    pub(crate) test: Built,
+    pub(crate) body: Vec<Built>,
 }
 
 /// A test, `then`, and the statements behind it.
@@ -113,7 +113,7 @@ pub(crate) fn program_after<
     grammar: &Grammar<'t, F>,
     tokens: &mut Cursor<'t>,
     word: Keyword,
-) -> Result<Option<Vec<Grown<Node>>>, MakeFault>
+) -> Result<Option<Vec<Built>>, MakeFault>
     requires nests { Nests grammar.now.maker.names.now grammar.now.depth (F.pre grammar.now.inner)
         (F.post grammar.now.inner) }
     requires same { tokens.old.names ≡ grammar.now.maker.names.now }
@@ -136,7 +136,7 @@ pub(crate) fn program_after<
 pub(crate) fn if_rule<
     't,
     F: Fn(Maker<'t>, &mut Cursor<'t>, usize, Within) -> Result<Read, MakeFault>,
->(grammar: &Grammar<'t, F>, tokens: &mut Cursor<'t>) -> Result<Grown<Node>, MakeFault>
+>(grammar: &Grammar<'t, F>, tokens: &mut Cursor<'t>) -> Result<Built, MakeFault>
     requires nests { Nests grammar.now.maker.names.now grammar.now.depth (F.pre grammar.now.inner)
         (F.post grammar.now.inner) }
     requires same { tokens.old.names ≡ grammar.now.maker.names.now }
@@ -160,7 +160,7 @@ pub(crate) fn if_rule<
 pub(crate) fn unless_rule<
     't,
     F: Fn(Maker<'t>, &mut Cursor<'t>, usize, Within) -> Result<Read, MakeFault>,
->(grammar: &Grammar<'t, F>, tokens: &mut Cursor<'t>) -> Result<Grown<Node>, MakeFault>
+>(grammar: &Grammar<'t, F>, tokens: &mut Cursor<'t>) -> Result<Built, MakeFault>
     requires nests { Nests grammar.now.maker.names.now grammar.now.depth (F.pre grammar.now.inner)
         (F.post grammar.now.inner) }
     requires same { tokens.old.names ≡ grammar.now.maker.names.now }
@@ -203,7 +203,7 @@ pub(crate) fn loop_arm<
 pub(crate) fn while_rule<
     't,
     F: Fn(Maker<'t>, &mut Cursor<'t>, usize, Within) -> Result<Read, MakeFault>,
->(grammar: &Grammar<'t, F>, tokens: &mut Cursor<'t>) -> Result<Grown<Node>, MakeFault>
+>(grammar: &Grammar<'t, F>, tokens: &mut Cursor<'t>) -> Result<Built, MakeFault>
     requires nests { Nests grammar.now.maker.names.now grammar.now.depth (F.pre grammar.now.inner)
         (F.post grammar.now.inner) }
     requires same { tokens.old.names ≡ grammar.now.maker.names.now }
@@ -227,7 +227,7 @@ pub(crate) fn while_rule<
 pub(crate) fn until_rule<
     't,
     F: Fn(Maker<'t>, &mut Cursor<'t>, usize, Within) -> Result<Read, MakeFault>,
->(grammar: &Grammar<'t, F>, tokens: &mut Cursor<'t>) -> Result<Grown<Node>, MakeFault>
+>(grammar: &Grammar<'t, F>, tokens: &mut Cursor<'t>) -> Result<Built, MakeFault>
     requires nests { Nests grammar.now.maker.names.now grammar.now.depth (F.pre grammar.now.inner)
         (F.post grammar.now.inner) }
     requires same { tokens.old.names ≡ grammar.now.maker.names.now }

@@ -14,7 +14,7 @@ ghost use Rattle.zw_compound.specs.Part as part;
 use crate::choice::program_after;
 use crate::path::optional_paths;
 use crate::separator::then_word;
-use zw_ast::{Clauses, Grown, MakeFault, Maker, Node, RescueClause};
+use zw_ast::{Built, Clauses, MakeFault, Maker, RescueClause};
 use zw_expr::{Cursor, Grammar, Read, Within};
 use zw_lexer::{Keyword, Punctuation};
 use zw_names::Name;
@@ -135,7 +135,7 @@ pub(crate) fn else_after<
     grammar: &Grammar<'t, F>,
     tokens: &mut Cursor<'t>,
     rescues: &[RescueClause],
-) -> Result<Option<Vec<Grown<Node>>>, MakeFault>
+) -> Result<Option<Vec<Built>>, MakeFault>
     requires nests { Nests grammar.now.maker.names.now grammar.now.depth (F.pre grammar.now.inner)
         (F.post grammar.now.inner) }
     requires same { tokens.old.names ≡ grammar.now.maker.names.now }
@@ -185,7 +185,7 @@ pub(crate) fn clauses<
 pub(crate) fn begin_rule<
     't,
     F: Fn(Maker<'t>, &mut Cursor<'t>, usize, Within) -> Result<Read, MakeFault>,
->(grammar: &Grammar<'t, F>, tokens: &mut Cursor<'t>) -> Result<Grown<Node>, MakeFault>
+>(grammar: &Grammar<'t, F>, tokens: &mut Cursor<'t>) -> Result<Built, MakeFault>
     requires nests { Nests grammar.now.maker.names.now grammar.now.depth (F.pre grammar.now.inner)
         (F.post grammar.now.inner) }
     requires same { tokens.old.names ≡ grammar.now.maker.names.now }

@@ -12,7 +12,7 @@ use crate::choice::{if_rule, unless_rule, until_rule, while_rule};
 use crate::class::{class_rule, module_rule};
 use crate::clause::begin_rule;
 use crate::method::def_rule;
-use zw_ast::{Grown, MakeFault, Maker, Malformed, Node};
+use zw_ast::{Built, MakeFault, Maker, Malformed};
 use zw_expr::{Cursor, Grammar, Read, Within};
 use zw_lexer::Keyword;
 
@@ -22,7 +22,7 @@ pub fn compound<'t, F: Fn(Maker<'t>, &mut Cursor<'t>, usize, Within) -> Result<R
     grammar: &Grammar<'t, F>,
     tokens: &mut Cursor<'t>,
     word: Keyword,
-) -> Result<Grown<Node>, MakeFault>
+) -> Result<Built, MakeFault>
     requires nests { Nests grammar.now.maker.names.now grammar.now.depth (F.pre grammar.now.inner)
         (F.post grammar.now.inner) }
     requires same { tokens.old.names ≡ grammar.now.maker.names.now }

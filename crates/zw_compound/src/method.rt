@@ -20,7 +20,7 @@ use crate::clause::clauses;
 use crate::known::params_known;
 use crate::param::optional_params;
 use crate::separator::skip_separators;
-use zw_ast::{Clauses, Grown, MakeFault, Maker, Malformed, MethodName, Node, Params};
+use zw_ast::{Built, Clauses, MakeFault, Maker, Malformed, MethodName, Params};
 use zw_expr::{Cursor, Grammar, Known, Read, Within};
 use zw_lexer::{Keyword, Punctuation, TokenKind};
 use zw_names::Name;
@@ -238,7 +238,7 @@ pub(crate) fn method_apart<
 pub(crate) fn def_rule<
     't,
     F: Fn(Maker<'t>, &mut Cursor<'t>, usize, Within) -> Result<Read, MakeFault>,
->(grammar: &Grammar<'t, F>, tokens: &mut Cursor<'t>) -> Result<Grown<Node>, MakeFault>
+>(grammar: &Grammar<'t, F>, tokens: &mut Cursor<'t>) -> Result<Built, MakeFault>
     requires nests { Nests grammar.now.maker.names.now grammar.now.depth (F.pre grammar.now.inner)
         (F.post grammar.now.inner) }
     requires same { tokens.old.names ≡ grammar.now.maker.names.now }

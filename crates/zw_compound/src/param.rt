@@ -15,7 +15,7 @@ ghost use Rattle.zw_compound.specs.Part as part;
 
 use crate::build::{required_after, with_default};
 use std::alloc::Global;
-use zw_ast::{Grown, MakeFault, Maker, Node, Params};
+use zw_ast::{MakeFault, Maker, Params};
 use zw_expr::{Cursor, Form, Grammar, Read, Within};
 use zw_lexer::{Punctuation, TokenKind};
 use zw_names::Name;

@@ -10,28 +10,26 @@ ghost use Rattle.zw_ast.specs.Part.{path_names, path_seen};
 ghost use Rattle.zw_expr.specs.Reads.{Reads};
 ghost use Rattle.zw_compound.specs.Part as part;
 
-use sqlite_items::Boxed;
-use std::alloc::{AllocError, Global};
-use zw_ast::{Base, ConstantPath, Grown, MakeFault, Maker, Node};
+use zw_ast::{Base, Built, ConstantPath, Grown, MakeFault, Maker, Node};
 use zw_expr::Cursor;
 use zw_lexer::{Punctuation, TokenKind};
 use zw_names::Name;
 
 // A constant of what a node gives.
 #[inline(never)]
-fn inside(alloc: Global, base: Grown<Node>, name: Name) -> Result<ConstantPath, AllocError>
-    ensures told { (names : List Text) → IfOk result (λ p. path_seen names p
-        ≡ part.path_inside (grown_seen names base) (name_seen names name)) }
+fn inside(base: Built, name: Name) -> ConstantPath
+    ensures told { (names : List Text) → path_seen names result
+        ≡ part.path_inside (grown_seen names base) (name_seen names name) }
     ensures named { (names : List Text) → IsNamed names base → IsName names name
-        → IfOk result (λ p. path_names p ≤ length names) }
+        → path_names result ≤ length names }
 {
-    Ok(ConstantPath {
+    ConstantPath {
         base: Grown {
-            form: Base::Within(Boxed::new(alloc, base.form)?),
+            form: Base::Within(base.form),
             height: base.height,
         },
         name,
-    })
+    }
 }
 
 /// `::N` behind a path.
@@ -52,7 +50,7 @@ pub(crate) fn longer_path<'t>(
     tokens.take_token();
     let base = maker.path(path)?;
     let name = tokens.take_constant()?;
-    Ok(inside(maker.alloc, base, name)?)
+    Ok(inside(base, name))
 }
 
 /// What goes on with a path.
@@ -135,7 +133,7 @@ pub(crate) fn constant_path<'t>(
 /// A path, as a node.
 #[tactic(auto, unfolding(zw_def_syntax::specs::Compound::path))]
 #[inline(never)]
-pub(crate) fn path<'t>(maker: &Maker<'t>, tokens: &mut Cursor<'t>) -> Result<Grown<Node>, MakeFault>
+pub(crate) fn path<'t>(maker: &Maker<'t>, tokens: &mut Cursor<'t>) -> Result<Built, MakeFault>
     requires same { tokens.old.names ≡ maker.now.names.now }
     ensures reads { Reads (grown_seen maker.now.names.now) (spec.path) tokens.old.input result
         tokens.new.input }
@@ -168,8 +166,8 @@ pub(crate) fn path_next(tokens: &Cursor<'_>) -> bool
 pub(crate) fn one_more_path<'t>(
     maker: &Maker<'t>,
     tokens: &mut Cursor<'t>,
-    mut found: Vec<Grown<Node>>,
-) -> Result<Vec<Grown<Node>>, MakeFault>
+    mut found: Vec<Built>,
+) -> Result<Vec<Built>, MakeFault>
     requires same { tokens.old.names ≡ maker.now.names.now }
     requires found { AreNamed maker.now.names.now found.items }
     ensures reads { Reads (λ all. all_seen maker.now.names.now all.items)
@@ -189,8 +187,8 @@ pub(crate) fn one_more_path<'t>(
 pub(crate) fn more_paths<'t>(
     maker: &Maker<'t>,
     tokens: &mut Cursor<'t>,
-    mut found: Vec<Grown<Node>>,
-) -> Result<Vec<Grown<Node>>, MakeFault>
+    mut found: Vec<Built>,
+) -> Result<Vec<Built>, MakeFault>
     requires same { tokens.old.names ≡ maker.now.names.now }
     requires found { AreNamed maker.now.names.now found.items }
     ensures reads { Reads (λ all. all_seen maker.now.names.now all.items)
@@ -213,7 +211,7 @@ pub(crate) fn more_paths<'t>(
 pub(crate) fn first_of_paths<'t>(
     maker: &Maker<'t>,
     tokens: &mut Cursor<'t>,
-) -> Result<Vec<Grown<Node>>, MakeFault>
+) -> Result<Vec<Built>, MakeFault>
     requires same { tokens.old.names ≡ maker.now.names.now }
     ensures reads { Reads (λ all. all_seen maker.now.names.now all.items) (part.first_of_paths)
         tokens.old.input result tokens.new.input }
@@ -228,10 +226,7 @@ pub(crate) fn first_of_paths<'t>(
 /// Paths with `,` between them.
 #[tactic(auto, unfolding(zw_def_syntax::specs::Compound::paths))]
 #[inline(never)]
-pub(crate) fn paths<'t>(
-    maker: &Maker<'t>,
-    tokens: &mut Cursor<'t>,
-) -> Result<Vec<Grown<Node>>, MakeFault>
+pub(crate) fn paths<'t>(maker: &Maker<'t>, tokens: &mut Cursor<'t>) -> Result<Vec<Built>, MakeFault>
     requires same { tokens.old.names ≡ maker.now.names.now }
     ensures reads { Reads (λ all. all_seen maker.now.names.now all.items) (spec.paths) tokens.old.input
         result tokens.new.input }
@@ -246,7 +241,7 @@ pub(crate) fn paths<'t>(
 pub(crate) fn optional_paths<'t>(
     maker: &Maker<'t>,
     tokens: &mut Cursor<'t>,
-) -> Result<Vec<Grown<Node>>, MakeFault>
+) -> Result<Vec<Built>, MakeFault>
     requires same { tokens.old.names ≡ maker.now.names.now }
     ensures reads { Reads (λ all. all_seen maker.now.names.now all.items) (part.optional_paths)
         tokens.old.input result tokens.new.input }

@@ -8,7 +8,7 @@ ghost use Rattle.zw_expr.specs.Nests.{Nests, form_seen};
 ghost use Rattle.zw_expr.specs.Reads.{Reads};
 
 use crate::cursor::Cursor;
-use zw_ast::{Grown, MakeFault, Maker, Node};
+use zw_ast::{Built, MakeFault, Maker};
 
 /// The forms that stand within others (ISO/IEC 30170, 11 and 12).
 #[derive(Clone, Copy, Debug, PartialEq, Eq)]
@@ -30,9 +30,9 @@ pub enum Within {
 /// What was read there.
 #[derive(Drop)]
 pub enum Read {
-    Tree(Grown<Node>),
+    Tree(Built),
     /// The statements of a program.
-    Program(Vec<Grown<Node>>),
+    Program(Vec<Built>),
 }
 
 /// Rules, which read what stands within their forms by `inner`, no deeper than `depth`.
@@ -48,7 +48,7 @@ impl<'t, F: Fn(Maker<'t>, &mut Cursor<'t>, usize, Within) -> Result<Read, MakeFa
     F,
 > {
     /// Reads a form that stands within another.
-    pub fn tree(&self, tokens: &mut Cursor<'t>, form: Form) -> Result<Grown<Node>, MakeFault>
+    pub fn tree(&self, tokens: &mut Cursor<'t>, form: Form) -> Result<Built, MakeFault>
         requires nests { Nests self.now.maker.names.now self.now.depth (F.pre self.now.inner) (F.post self.now.inner) }
         requires same { tokens.old.names ≡ self.now.maker.names.now }
         ensures reads { Reads (grown_seen self.now.maker.names.now) ((within self.now.depth).tree (form_seen form))
@@ -63,7 +63,7 @@ impl<'t, F: Fn(Maker<'t>, &mut Cursor<'t>, usize, Within) -> Result<Read, MakeFa
     }
 
     /// Reads a program that stands within a form.
-    pub fn program(&self, tokens: &mut Cursor<'t>) -> Result<Vec<Grown<Node>>, MakeFault>
+    pub fn program(&self, tokens: &mut Cursor<'t>) -> Result<Vec<Built>, MakeFault>
         requires nests { Nests self.now.maker.names.now self.now.depth (F.pre self.now.inner) (F.post self.now.inner) }
         requires same { tokens.old.names ≡ self.now.maker.names.now }
         ensures reads { Reads (λ all. all_seen self.now.maker.names.now all.items) (within self.now.depth).program

@@ -14,7 +14,7 @@ use crate::level::{Level, is_repeated, sign_of};
 use crate::operand::{Operand, join};
 use crate::sign::Sign;
 use std::collections::VecDeque;
-use zw_ast::{Grown, MakeFault, Maker, Malformed, Node};
+use zw_ast::{Built, MakeFault, Maker, Malformed};
 
 // An operand, made into one with what stands behind it.
 #[inline(never)]
@@ -22,7 +22,7 @@ fn with_joined(
     maker: &Maker<'_>,
     sign: Sign,
     last: Operand,
-    right: Grown<Node>,
+    right: Built,
 ) -> Result<Operand, MakeFault>
     requires last { operand_names last ≤ length maker.now.names.now }
     requires right { IsNamed maker.now.names.now right }
@@ -44,7 +44,7 @@ fn join_last(
     maker: &Maker<'_>,
     sign: Sign,
     done: &mut VecDeque<Operand>,
-    right: Grown<Node>,
+    right: Built,
 ) -> Result<(), MakeFault>
     requires done { AreNamedOperands maker.now.names.now done.old.items }
     requires some { 0 < length done.old.items }
@@ -72,7 +72,7 @@ fn joined_on(
     made: bool,
     done: &mut VecDeque<Operand>,
     sign: Sign,
-    right: Grown<Node>,
+    right: Built,
 ) -> Result<bool, MakeFault>
     requires done { AreNamedOperands maker.now.names.now done.old.items }
     requires some { 0 < length done.old.items }
@@ -188,7 +188,7 @@ fn loose(maker: &Maker<'_>, operands: VecDeque<Operand>) -> Result<VecDeque<Oper
     joined(maker, Level::Or, operands)
 }
 
-fn only(mut operands: VecDeque<Operand>) -> Result<Grown<Node>, MakeFault>
+fn only(mut operands: VecDeque<Operand>) -> Result<Built, MakeFault>
     ensures told { (names : List Text) → Gives (grown_seen names) (spec.only (operands_seen names operands.items)) result }
     ensures named { IfOk result (λ g. bound_of g.form ≤ greatest operand_names operands.items) }
 {
@@ -205,7 +205,7 @@ fn only(mut operands: VecDeque<Operand>) -> Result<Grown<Node>, MakeFault>
 /// a node that would be too high.
 #[tactic(auto, using(crate::proofs::JoinLemmas::folded_goes, crate::proofs::JoinLemmas::folded_fails, crate::proofs::JoinLemmas::folded_ends))]
 #[inline(never)]
-pub fn fold(maker: &Maker<'_>, operands: VecDeque<Operand>) -> Result<Grown<Node>, MakeFault>
+pub fn fold(maker: &Maker<'_>, operands: VecDeque<Operand>) -> Result<Built, MakeFault>
     requires { AreNamedOperands maker.now.names.now operands.items }
     ensures told { Gives (grown_seen maker.now.names.now)
         (spec.whole_of (operands_seen maker.now.names.now operands.items)) result }

@@ -2,7 +2,8 @@
 //! every rule stands on. It stands on the tokens of `zw_lexer`, on the nodes of `zw_ast` and on the grammar of
 //! `zw_def_syntax`. It promises that each call of a cursor is the definition's own step, that `fold` makes the node that
 //! the levels make of operands, however many, and that what stands within a form is read as defined, by whatever function
-//! reads it. The steps of `fold` are no part of the frame of the form that they are called from (`inline(never)`).
+//! reads it. The steps of `fold` that make nodes are no part of the frame of the form that they are called from
+//! (`inline(never)`).
 #![tactic(auto)]
 
 mod cursor;

@@ -12,13 +12,13 @@ ghost use Rattle.zw_ast.specs.Operator.{operators};
 ghost use Rattle.zw_expr.specs.Sign.{text_of_sign};
 
 use crate::sign::Sign;
-use zw_ast::{Grown, MakeFault, Maker, Node};
+use zw_ast::{Built, MakeFault, Maker};
 
 /// An operand, and the sign before it; before the first one there is none.
 #[derive(Drop)]
 pub struct Operand {
     pub sign: Option<Sign>,
-    pub value: Grown<Node>,
+    pub value: Built,
 }
 
 fn is_and(sign: Sign) -> bool
@@ -35,12 +35,7 @@ fn is_or(sign: Sign) -> bool
 
 // The call of the method that the sign is.
 #[inline(never)]
-fn called(
-    maker: &Maker<'_>,
-    sign: Sign,
-    left: Grown<Node>,
-    right: Grown<Node>,
-) -> Result<Grown<Node>, MakeFault>
+fn called(maker: &Maker<'_>, sign: Sign, left: Built, right: Built) -> Result<Built, MakeFault>
     requires sign { is_among operators (text_of_sign sign) ≡ true }
     requires left { IsNamed maker.now.names.now left }
     requires right { IsNamed maker.now.names.now right }
@@ -58,9 +53,9 @@ fn called(
 pub(crate) fn join(
     maker: &Maker<'_>,
     sign: Sign,
-    left: Grown<Node>,
-    right: Grown<Node>,
-) -> Result<Grown<Node>, MakeFault>
+    left: Built,
+    right: Built,
+) -> Result<Built, MakeFault>
     requires left { IsNamed maker.now.names.now left }
     requires right { IsNamed maker.now.names.now right }
     ensures told { Gives (grown_seen maker.now.names.now) (t.over_both (spec.join (text_of_sign sign))

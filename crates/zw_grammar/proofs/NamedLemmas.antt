@@ -1,5 +1,5 @@
 -- The names of what is read are in the table.
-use Rattle.std.proofs.Common.{ℕ, ◌≤◌, List, [], ◌∷◌, ◌++◌, length, arith}
+use Rattle.std.proofs.Common.{ℕ, ◌≤◌, List, [], ◌∷◌, ◌++◌, arith}
 use Rattle.zw_def.specs.Text.{Text}
 use Rattle.zw_ast.specs.declared.grown.Grown.{Grown}
 use Rattle.zw_ast.specs.declared.node.Node.{Node}

@@ -1,14 +1,14 @@
 -- Rules of which a part is read by a function of its own, and what a rule gives once its steps are known.
-use Rattle.std.proofs.Common.{◌≡◌, ◌≢◌, ◌&&◌, Bool, true, false, if◌then◌else◌, List, [], ◌∷◌, Option, Some, None, Result, Ok, Err, codes, refl, ap, sym, ◌∙◌}
+use Rattle.std.proofs.Common.{◌≡◌, ◌&&◌, Bool, true, false, if◌then◌else◌, List, [], ◌∷◌, Option, Some, None, Result, Ok, Err, codes, refl, ap, sym, ◌∙◌}
 use Rattle.zw_def.specs.Text.{Text}
 use Rattle.zw_def_syntax.specs.Token.{Kind}
 use Rattle.zw_def_syntax.specs.Tree.{Tree, Grown}
 use Rattle.zw_def_syntax.specs.Input.{Input, Parser, and_then, close_sign, given, if_here, kind_at, next, open_bracket, take_name, take_sign}
 use Rattle.zw_def_syntax.specs.Compound.{Reader, ternary_form}
+use Rattle.zw_def_syntax.specs.Levels.{folded, joined_from}
 use Rattle.zw_def_syntax.specs.Expression as e
 use Rattle.zw_def_syntax.specs.Grammar as g
 use Rattle.zw_base.specs.declared.fault.Fault.{Fault}
-use Rattle.zw_base.specs.declared.fault.Fault.TheVariants.{Memory}
 use Rattle.zw_ast.specs.Gives.{Gives}
 use Rattle.zw_ast.specs.declared.grown.Malformed.{Malformed}
 use Rattle.zw_expr.specs.Reads.{Reads}
@@ -30,6 +30,11 @@ reads_else view test p q i k result fails reads = reads_by view (if_here test p 
 pub reads_given : {A X : Type 0} (view : X → A) (rule : Parser A) (outcome : Option A) (i j : Input) (result : Result X (Fault Malformed)) → rule i ≡ given outcome j → Gives view outcome result → Reads view rule i result j
 reads_given view rule outcome i j (Ok x) is gives = is ∙ ap (λ o. given o j) gives
 reads_given view rule outcome i j (Err fault) is gives = λ known. is ∙ ap (λ o. given o j) (gives known)
+
+-- an operand alone is what the levels make of it
+pub folded_alone : (a : Grown Tree) → part.folded a [] ≡ Some a
+unfolding folded joined_from
+folded_alone a = refl
 
 abbrev both_of : Grown Tree → Grown Tree → part.Bodies
 both_of a b = record { body = a ∷ []; other = b ∷ [] }

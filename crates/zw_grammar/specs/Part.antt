@@ -1,5 +1,5 @@
 -- Parts of rules that are read by functions of their own.
-use Rattle.std.specs.Prelude.{ℕ, ◌-◌, List, [], ◌∷◌, ◌++◌, codes, length, take, Option, option_and_then}
+use Rattle.std.specs.Prelude.{◌-◌, List, [], ◌∷◌, ◌++◌, codes, length, take, Option, option_and_then}
 use Rattle.zw_def.specs.Text.{Text}
 use Rattle.zw_def_syntax.specs.Tree.{Tree, Grown, break_node, next_node, if_node, test_first, local_node, leaf, not_node, over, over_three, row_of, self_call, set_local, super_node}
 use Rattle.zw_def_syntax.specs.Input.{Parser, ◌>>=◌, ◌>>◌, close_sign, pure, given, if_here, keyword_next, learn, open_bracket, sign_next, take_sign, take_token}

@@ -10,7 +10,7 @@ ghost use Rattle.zw_expr.specs.Reads.{Reads};
 ghost use Rattle.zw_grammar.specs.Part as part;
 
 use crate::sight::item_next;
-use zw_ast::{Grown, MakeFault, Maker, Node};
+use zw_ast::{Built, MakeFault, Maker};
 use zw_expr::{Cursor, Form, Grammar, Read, Within};
 use zw_lexer::Punctuation;
 
@@ -23,8 +23,8 @@ pub(crate) fn one_more<
 >(
     grammar: &Grammar<'t, F>,
     tokens: &mut Cursor<'t>,
-    mut found: Vec<Grown<Node>>,
-) -> Result<Vec<Grown<Node>>, MakeFault>
+    mut found: Vec<Built>,
+) -> Result<Vec<Built>, MakeFault>
     requires nests { Nests grammar.now.maker.names.now grammar.now.depth (F.pre grammar.now.inner)
         (F.post grammar.now.inner) }
     requires same { tokens.old.names ≡ grammar.now.maker.names.now }
@@ -49,8 +49,8 @@ pub(crate) fn more_arguments<
 >(
     grammar: &Grammar<'t, F>,
     tokens: &mut Cursor<'t>,
-    mut found: Vec<Grown<Node>>,
-) -> Result<Vec<Grown<Node>>, MakeFault>
+    mut found: Vec<Built>,
+) -> Result<Vec<Built>, MakeFault>
     requires nests { Nests grammar.now.maker.names.now grammar.now.depth (F.pre grammar.now.inner)
         (F.post grammar.now.inner) }
     requires same { tokens.old.names ≡ grammar.now.maker.names.now }
@@ -75,7 +75,7 @@ pub(crate) fn more_arguments<
 pub(crate) fn first_argument<
     't,
     F: Fn(Maker<'t>, &mut Cursor<'t>, usize, Within) -> Result<Read, MakeFault>,
->(grammar: &Grammar<'t, F>, tokens: &mut Cursor<'t>) -> Result<Vec<Grown<Node>>, MakeFault>
+>(grammar: &Grammar<'t, F>, tokens: &mut Cursor<'t>) -> Result<Vec<Built>, MakeFault>
     requires nests { Nests grammar.now.maker.names.now grammar.now.depth (F.pre grammar.now.inner)
         (F.post grammar.now.inner) }
     requires same { tokens.old.names ≡ grammar.now.maker.names.now }
@@ -95,7 +95,7 @@ pub(crate) fn first_argument<
 pub(crate) fn arguments<
     't,
     F: Fn(Maker<'t>, &mut Cursor<'t>, usize, Within) -> Result<Read, MakeFault>,
->(grammar: &Grammar<'t, F>, tokens: &mut Cursor<'t>) -> Result<Vec<Grown<Node>>, MakeFault>
+>(grammar: &Grammar<'t, F>, tokens: &mut Cursor<'t>) -> Result<Vec<Built>, MakeFault>
     requires nests { Nests grammar.now.maker.names.now grammar.now.depth (F.pre grammar.now.inner)
         (F.post grammar.now.inner) }
     requires same { tokens.old.names ≡ grammar.now.maker.names.now }
@@ -112,7 +112,7 @@ pub(crate) fn arguments<
 pub(crate) fn optional_arguments<
     't,
     F: Fn(Maker<'t>, &mut Cursor<'t>, usize, Within) -> Result<Read, MakeFault>,
->(grammar: &Grammar<'t, F>, tokens: &mut Cursor<'t>) -> Result<Vec<Grown<Node>>, MakeFault>
+>(grammar: &Grammar<'t, F>, tokens: &mut Cursor<'t>) -> Result<Vec<Built>, MakeFault>
     requires nests { Nests grammar.now.maker.names.now grammar.now.depth (F.pre grammar.now.inner)
         (F.post grammar.now.inner) }
     requires same { tokens.old.names ≡ grammar.now.maker.names.now }
@@ -134,7 +134,7 @@ pub(crate) fn optional_arguments<
 pub(crate) fn parens<
     't,
     F: Fn(Maker<'t>, &mut Cursor<'t>, usize, Within) -> Result<Read, MakeFault>,
->(grammar: &Grammar<'t, F>, tokens: &mut Cursor<'t>) -> Result<Vec<Grown<Node>>, MakeFault>
+>(grammar: &Grammar<'t, F>, tokens: &mut Cursor<'t>) -> Result<Vec<Built>, MakeFault>
     requires nests { Nests grammar.now.maker.names.now grammar.now.depth (F.pre grammar.now.inner)
         (F.post grammar.now.inner) }
     requires same { tokens.old.names ≡ grammar.now.maker.names.now }
@@ -158,8 +158,8 @@ pub(crate) fn more_items<
 >(
     grammar: &Grammar<'t, F>,
     tokens: &mut Cursor<'t>,
-    mut found: Vec<Grown<Node>>,
-) -> Result<Vec<Grown<Node>>, MakeFault>
+    mut found: Vec<Built>,
+) -> Result<Vec<Built>, MakeFault>
     requires nests { Nests grammar.now.maker.names.now grammar.now.depth (F.pre grammar.now.inner)
         (F.post grammar.now.inner) }
     requires same { tokens.old.names ≡ grammar.now.maker.names.now }
@@ -185,7 +185,7 @@ pub(crate) fn more_items<
 pub(crate) fn items<
     't,
     F: Fn(Maker<'t>, &mut Cursor<'t>, usize, Within) -> Result<Read, MakeFault>,
->(grammar: &Grammar<'t, F>, tokens: &mut Cursor<'t>) -> Result<Vec<Grown<Node>>, MakeFault>
+>(grammar: &Grammar<'t, F>, tokens: &mut Cursor<'t>) -> Result<Vec<Built>, MakeFault>
     requires nests { Nests grammar.now.maker.names.now grammar.now.depth (F.pre grammar.now.inner)
         (F.post grammar.now.inner) }
     requires same { tokens.old.names ≡ grammar.now.maker.names.now }
@@ -206,7 +206,7 @@ pub(crate) fn items<
 pub(crate) fn optional_items<
     't,
     F: Fn(Maker<'t>, &mut Cursor<'t>, usize, Within) -> Result<Read, MakeFault>,
->(grammar: &Grammar<'t, F>, tokens: &mut Cursor<'t>) -> Result<Vec<Grown<Node>>, MakeFault>
+>(grammar: &Grammar<'t, F>, tokens: &mut Cursor<'t>) -> Result<Vec<Built>, MakeFault>
     requires nests { Nests grammar.now.maker.names.now grammar.now.depth (F.pre grammar.now.inner)
         (F.post grammar.now.inner) }
     requires same { tokens.old.names ≡ grammar.now.maker.names.now }

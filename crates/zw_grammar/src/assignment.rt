@@ -12,7 +12,7 @@ ghost use Rattle.zw_grammar.specs.Part as part;
 ghost use Rattle.zw_grammar.specs.Variable.{name_in, set_by};
 
 use crate::variable::{Variable, set};
-use zw_ast::{Grown, MakeFault, Maker, Malformed, Node};
+use zw_ast::{Built, MakeFault, Maker, Malformed};
 use zw_expr::{Cursor, Form, Grammar, Read, Within};
 use zw_lexer::TokenKind;
 use zw_names::Name;
@@ -23,7 +23,7 @@ use zw_names::Name;
 pub(crate) fn constant_assignment<
     't,
     F: Fn(Maker<'t>, &mut Cursor<'t>, usize, Within) -> Result<Read, MakeFault>,
->(grammar: &Grammar<'t, F>, tokens: &mut Cursor<'t>, name: Name) -> Result<Grown<Node>, MakeFault>
+>(grammar: &Grammar<'t, F>, tokens: &mut Cursor<'t>, name: Name) -> Result<Built, MakeFault>
     requires nests { Nests grammar.now.maker.names.now grammar.now.depth (F.pre grammar.now.inner)
         (F.post grammar.now.inner) }
     requires same { tokens.old.names ≡ grammar.now.maker.names.now }
@@ -45,11 +45,7 @@ pub(crate) fn constant_assignment<
 pub(crate) fn variable_assignment<
     't,
     F: Fn(Maker<'t>, &mut Cursor<'t>, usize, Within) -> Result<Read, MakeFault>,
->(
-    grammar: &Grammar<'t, F>,
-    tokens: &mut Cursor<'t>,
-    variable: Variable,
-) -> Result<Grown<Node>, MakeFault>
+>(grammar: &Grammar<'t, F>, tokens: &mut Cursor<'t>, variable: Variable) -> Result<Built, MakeFault>
     requires nests { Nests grammar.now.maker.names.now grammar.now.depth (F.pre grammar.now.inner)
         (F.post grammar.now.inner) }
     requires same { tokens.old.names ≡ grammar.now.maker.names.now }
@@ -70,7 +66,7 @@ pub(crate) fn variable_assignment<
 pub(crate) fn local_assignment<
     't,
     F: Fn(Maker<'t>, &mut Cursor<'t>, usize, Within) -> Result<Read, MakeFault>,
->(grammar: &Grammar<'t, F>, tokens: &mut Cursor<'t>, name: Name) -> Result<Grown<Node>, MakeFault>
+>(grammar: &Grammar<'t, F>, tokens: &mut Cursor<'t>, name: Name) -> Result<Built, MakeFault>
     requires nests { Nests grammar.now.maker.names.now grammar.now.depth (F.pre grammar.now.inner)
         (F.post grammar.now.inner) }
     requires same { tokens.old.names ≡ grammar.now.maker.names.now }
@@ -89,7 +85,7 @@ pub(crate) fn local_assignment<
 pub(crate) fn assignment<
     't,
     F: Fn(Maker<'t>, &mut Cursor<'t>, usize, Within) -> Result<Read, MakeFault>,
->(grammar: &Grammar<'t, F>, tokens: &mut Cursor<'t>) -> Result<Grown<Node>, MakeFault>
+>(grammar: &Grammar<'t, F>, tokens: &mut Cursor<'t>) -> Result<Built, MakeFault>
     requires nests { Nests grammar.now.maker.names.now grammar.now.depth (F.pre grammar.now.inner)
         (F.post grammar.now.inner) }
     requires same { tokens.old.names ≡ grammar.now.maker.names.now }
@@ -121,11 +117,7 @@ pub(crate) fn assignment<
 pub(crate) fn scoped_assignment<
     't,
     F: Fn(Maker<'t>, &mut Cursor<'t>, usize, Within) -> Result<Read, MakeFault>,
->(
-    grammar: &Grammar<'t, F>,
-    tokens: &mut Cursor<'t>,
-    base: Grown<Node>,
-) -> Result<Grown<Node>, MakeFault>
+>(grammar: &Grammar<'t, F>, tokens: &mut Cursor<'t>, base: Built) -> Result<Built, MakeFault>
     requires nests { Nests grammar.now.maker.names.now grammar.now.depth (F.pre grammar.now.inner)
         (F.post grammar.now.inner) }
     requires same { tokens.old.names ≡ grammar.now.maker.names.now }
@@ -149,11 +141,7 @@ pub(crate) fn scoped_assignment<
 pub(crate) fn attribute_assignment<
     't,
     F: Fn(Maker<'t>, &mut Cursor<'t>, usize, Within) -> Result<Read, MakeFault>,
->(
-    grammar: &Grammar<'t, F>,
-    tokens: &mut Cursor<'t>,
-    receiver: Grown<Node>,
-) -> Result<Grown<Node>, MakeFault>
+>(grammar: &Grammar<'t, F>, tokens: &mut Cursor<'t>, receiver: Built) -> Result<Built, MakeFault>
     requires nests { Nests grammar.now.maker.names.now grammar.now.depth (F.pre grammar.now.inner)
         (F.post grammar.now.inner) }
     requires same { tokens.old.names ≡ grammar.now.maker.names.now }

@@ -8,7 +8,7 @@ ghost use Rattle.zw_ast.specs.Grown.{grown_seen};
 ghost use Rattle.zw_ast.specs.Named.{IsNamed};
 ghost use Rattle.zw_lexer.specs.Keyword.{keyword_text};
 
-use zw_ast::{Grown, MakeFault, Maker, Node, Order};
+use zw_ast::{Built, MakeFault, Maker, Order};
 use zw_compound::{only, until};
 use zw_lexer::Keyword;
 
@@ -22,9 +22,9 @@ fn is_same(word: Keyword, other: Keyword) -> bool
 pub(crate) fn joined(
     maker: &Maker<'_>,
     word: Keyword,
-    left: Grown<Node>,
-    right: Grown<Node>,
-) -> Result<Grown<Node>, MakeFault>
+    left: Built,
+    right: Built,
+) -> Result<Built, MakeFault>
     requires left { IsNamed maker.now.names.now left }
     requires right { IsNamed maker.now.names.now right }
     ensures told { (inner : Reader) → Gives (grown_seen maker.now.names.now) (spec.logic_tree inner (keyword_text word)
@@ -43,9 +43,9 @@ pub(crate) fn joined(
 pub(crate) fn modified(
     maker: &Maker<'_>,
     word: Keyword,
-    body: Grown<Node>,
-    test: Grown<Node>,
-) -> Result<Grown<Node>, MakeFault>
+    body: Built,
+    test: Built,
+) -> Result<Built, MakeFault>
     requires body { IsNamed maker.now.names.now body }
     requires test { IsNamed maker.now.names.now test }
     ensures told { Gives (grown_seen maker.now.names.now) (spec.modified_tree (keyword_text word)

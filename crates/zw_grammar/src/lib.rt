@@ -1,7 +1,7 @@
 //! The grammar. It stands on its definition in `zw_def_syntax`, on the nodes of `zw_ast`, and on the cursor, the levels
 //! and the compound forms of `zw_expr` and `zw_compound`. Each rule promises to read exactly what its definition reads.
-//! Rules are frames of their own (`inline(never)`): below a form that stands within another lies only what the rules on
-//! the way to it hold.
+//! Rules that do more than choose are frames of their own (`inline(never)`): below a form that stands within another lies
+//! only what the rules on the way to it hold.
 #![tactic(auto)]
 
 mod ahead;

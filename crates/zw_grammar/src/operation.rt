@@ -18,7 +18,7 @@ use crate::postfix::{negative, postfix};
 use crate::sight::{negative_next, operand_next};
 use crate::take::take_operand_sign;
 use std::collections::VecDeque;
-use zw_ast::{Grown, MakeFault, Maker, Node, Order};
+use zw_ast::{Built, MakeFault, Maker, Order};
 use zw_expr::{Cursor, Form, Grammar, Operand, Read, Within, fold};
 use zw_lexer::Punctuation;
 
@@ -27,7 +27,7 @@ use zw_lexer::Punctuation;
 pub(crate) fn inverted<
     't,
     F: Fn(Maker<'t>, &mut Cursor<'t>, usize, Within) -> Result<Read, MakeFault>,
->(grammar: &Grammar<'t, F>, tokens: &mut Cursor<'t>) -> Result<Grown<Node>, MakeFault>
+>(grammar: &Grammar<'t, F>, tokens: &mut Cursor<'t>) -> Result<Built, MakeFault>
     requires nests { Nests grammar.now.maker.names.now grammar.now.depth (F.pre grammar.now.inner)
         (F.post grammar.now.inner) }
     requires same { tokens.old.names ≡ grammar.now.maker.names.now }
@@ -42,7 +42,7 @@ pub(crate) fn inverted<
 }
 
 // The call of the method that a minus is.
-fn negation(maker: &Maker<'_>, value: Grown<Node>) -> Result<Grown<Node>, MakeFault>
+fn negation(maker: &Maker<'_>, value: Built) -> Result<Built, MakeFault>
     requires value { IsNamed maker.now.names.now value }
     ensures told { Gives (grown_seen maker.now.names.now)
         (spec.call (codes "-@") (grown_seen maker.now.names.now value) []) result }
@@ -57,7 +57,7 @@ fn negation(maker: &Maker<'_>, value: Grown<Node>) -> Result<Grown<Node>, MakeFa
 pub(crate) fn minus<
     't,
     F: Fn(Maker<'t>, &mut Cursor<'t>, usize, Within) -> Result<Read, MakeFault>,
->(grammar: &Grammar<'t, F>, tokens: &mut Cursor<'t>) -> Result<Grown<Node>, MakeFault>
+>(grammar: &Grammar<'t, F>, tokens: &mut Cursor<'t>) -> Result<Built, MakeFault>
     requires nests { Nests grammar.now.maker.names.now grammar.now.depth (F.pre grammar.now.inner)
         (F.post grammar.now.inner) }
     requires same { tokens.old.names ≡ grammar.now.maker.names.now }
@@ -75,7 +75,7 @@ pub(crate) fn minus<
 pub(crate) fn minus_or_postfix<
     't,
     F: Fn(Maker<'t>, &mut Cursor<'t>, usize, Within) -> Result<Read, MakeFault>,
->(grammar: &Grammar<'t, F>, tokens: &mut Cursor<'t>) -> Result<Grown<Node>, MakeFault>
+>(grammar: &Grammar<'t, F>, tokens: &mut Cursor<'t>) -> Result<Built, MakeFault>
     requires nests { Nests grammar.now.maker.names.now grammar.now.depth (F.pre grammar.now.inner)
         (F.post grammar.now.inner) }
     requires same { tokens.old.names ≡ grammar.now.maker.names.now }
@@ -95,7 +95,7 @@ pub(crate) fn minus_or_postfix<
 pub(crate) fn signed<
     't,
     F: Fn(Maker<'t>, &mut Cursor<'t>, usize, Within) -> Result<Read, MakeFault>,
->(grammar: &Grammar<'t, F>, tokens: &mut Cursor<'t>) -> Result<Grown<Node>, MakeFault>
+>(grammar: &Grammar<'t, F>, tokens: &mut Cursor<'t>) -> Result<Built, MakeFault>
     requires nests { Nests grammar.now.maker.names.now grammar.now.depth (F.pre grammar.now.inner)
         (F.post grammar.now.inner) }
     requires same { tokens.old.names ≡ grammar.now.maker.names.now }
@@ -116,7 +116,7 @@ pub(crate) fn signed<
 pub(crate) fn unary<
     't,
     F: Fn(Maker<'t>, &mut Cursor<'t>, usize, Within) -> Result<Read, MakeFault>,
->(grammar: &Grammar<'t, F>, tokens: &mut Cursor<'t>) -> Result<Grown<Node>, MakeFault>
+>(grammar: &Grammar<'t, F>, tokens: &mut Cursor<'t>) -> Result<Built, MakeFault>
     requires nests { Nests grammar.now.maker.names.now grammar.now.depth (F.pre grammar.now.inner)
         (F.post grammar.now.inner) }
     requires same { tokens.old.names ≡ grammar.now.maker.names.now }
@@ -192,19 +192,18 @@ pub(crate) fn operands<
     Ok(found)
 }
 
-// The node of a first operand and those behind it.
+// The node of a first operand and those behind it; where there are none, the operand.
 #[inline(never)]
-fn folded(
-    maker: &Maker<'_>,
-    first: Grown<Node>,
-    mut more: VecDeque<Operand>,
-) -> Result<Grown<Node>, MakeFault>
+fn folded(maker: &Maker<'_>, first: Built, mut more: VecDeque<Operand>) -> Result<Built, MakeFault>
     requires first { IsNamed maker.now.names.now first }
     requires more { AreNamedOperands maker.now.names.now more.items }
     ensures told { Gives (grown_seen maker.now.names.now) (part.folded (grown_seen maker.now.names.now first)
         (operands_seen maker.now.names.now more.items)) result }
     ensures named { IfOk result (IsNamed maker.now.names.now) }
 {
+    if more.is_empty() {
+        return Ok(first);
+    }
     more.push_front(Operand {
         sign: None,
         value: first,
@@ -218,11 +217,7 @@ fn folded(
 pub(crate) fn operation_from<
     't,
     F: Fn(Maker<'t>, &mut Cursor<'t>, usize, Within) -> Result<Read, MakeFault>,
->(
-    grammar: &Grammar<'t, F>,
-    tokens: &mut Cursor<'t>,
-    first: Grown<Node>,
-) -> Result<Grown<Node>, MakeFault>
+>(grammar: &Grammar<'t, F>, tokens: &mut Cursor<'t>, first: Built) -> Result<Built, MakeFault>
     requires nests { Nests grammar.now.maker.names.now grammar.now.depth (F.pre grammar.now.inner)
         (F.post grammar.now.inner) }
     requires same { tokens.old.names ≡ grammar.now.maker.names.now }
@@ -240,8 +235,8 @@ pub(crate) fn operation_from<
 /// The bodies behind `?`.
 #[derive(Drop)]
 pub(crate) struct Bodies {
-    pub(crate) body: Vec<Grown<Node>>,
-    pub(crate) other: Vec<Grown<Node>>,
+    pub(crate) body: Vec<Built>,
+    pub(crate) other: Vec<Built>,
 }
 
 /// `a : b`.
@@ -271,11 +266,7 @@ pub(crate) fn both_alternatives<
 pub(crate) fn alternatives<
     't,
     F: Fn(Maker<'t>, &mut Cursor<'t>, usize, Within) -> Result<Read, MakeFault>,
->(
-    grammar: &Grammar<'t, F>,
-    tokens: &mut Cursor<'t>,
-    test: Grown<Node>,
-) -> Result<Grown<Node>, MakeFault>
+>(grammar: &Grammar<'t, F>, tokens: &mut Cursor<'t>, test: Built) -> Result<Built, MakeFault>
     requires nests { Nests grammar.now.maker.names.now grammar.now.depth (F.pre grammar.now.inner)
         (F.post grammar.now.inner) }
     requires same { tokens.old.names ≡ grammar.now.maker.names.now }
@@ -298,11 +289,7 @@ pub(crate) fn alternatives<
 pub(crate) fn ternary_from<
     't,
     F: Fn(Maker<'t>, &mut Cursor<'t>, usize, Within) -> Result<Read, MakeFault>,
->(
-    grammar: &Grammar<'t, F>,
-    tokens: &mut Cursor<'t>,
-    first: Grown<Node>,
-) -> Result<Grown<Node>, MakeFault>
+>(grammar: &Grammar<'t, F>, tokens: &mut Cursor<'t>, first: Built) -> Result<Built, MakeFault>
     requires nests { Nests grammar.now.maker.names.now grammar.now.depth (F.pre grammar.now.inner)
         (F.post grammar.now.inner) }
     requires same { tokens.old.names ≡ grammar.now.maker.names.now }
@@ -327,7 +314,7 @@ pub(crate) fn ternary_from<
 pub(crate) fn ternary<
     't,
     F: Fn(Maker<'t>, &mut Cursor<'t>, usize, Within) -> Result<Read, MakeFault>,
->(grammar: &Grammar<'t, F>, tokens: &mut Cursor<'t>) -> Result<Grown<Node>, MakeFault>
+>(grammar: &Grammar<'t, F>, tokens: &mut Cursor<'t>) -> Result<Built, MakeFault>
     requires nests { Nests grammar.now.maker.names.now grammar.now.depth (F.pre grammar.now.inner)
         (F.post grammar.now.inner) }
     requires same { tokens.old.names ≡ grammar.now.maker.names.now }

@@ -13,7 +13,7 @@ use crate::arguments::{arguments, parens};
 use crate::primary::primary;
 use crate::sight::{parens_next, suffix_next};
 use crate::take::take_integer;
-use zw_ast::{Grown, MakeFault, Maker, Node};
+use zw_ast::{Built, MakeFault, Maker};
 use zw_expr::{Cursor, Grammar, Read, Within};
 use zw_lexer::Punctuation;
 
@@ -21,7 +21,7 @@ use zw_lexer::Punctuation;
 pub(crate) fn optional_parens<
     't,
     F: Fn(Maker<'t>, &mut Cursor<'t>, usize, Within) -> Result<Read, MakeFault>,
->(grammar: &Grammar<'t, F>, tokens: &mut Cursor<'t>) -> Result<Vec<Grown<Node>>, MakeFault>
+>(grammar: &Grammar<'t, F>, tokens: &mut Cursor<'t>) -> Result<Vec<Built>, MakeFault>
     requires nests { Nests grammar.now.maker.names.now grammar.now.depth (F.pre grammar.now.inner)
         (F.post grammar.now.inner) }
     requires same { tokens.old.names ≡ grammar.now.maker.names.now }
@@ -43,11 +43,7 @@ pub(crate) fn optional_parens<
 pub(crate) fn called<
     't,
     F: Fn(Maker<'t>, &mut Cursor<'t>, usize, Within) -> Result<Read, MakeFault>,
->(
-    grammar: &Grammar<'t, F>,
-    tokens: &mut Cursor<'t>,
-    receiver: Grown<Node>,
-) -> Result<Grown<Node>, MakeFault>
+>(grammar: &Grammar<'t, F>, tokens: &mut Cursor<'t>, receiver: Built) -> Result<Built, MakeFault>
     requires nests { Nests grammar.now.maker.names.now grammar.now.depth (F.pre grammar.now.inner)
         (F.post grammar.now.inner) }
     requires same { tokens.old.names ≡ grammar.now.maker.names.now }
@@ -70,11 +66,7 @@ pub(crate) fn called<
 pub(crate) fn scoped<
     't,
     F: Fn(Maker<'t>, &mut Cursor<'t>, usize, Within) -> Result<Read, MakeFault>,
->(
-    grammar: &Grammar<'t, F>,
-    tokens: &mut Cursor<'t>,
-    receiver: Grown<Node>,
-) -> Result<Grown<Node>, MakeFault>
+>(grammar: &Grammar<'t, F>, tokens: &mut Cursor<'t>, receiver: Built) -> Result<Built, MakeFault>
     requires nests { Nests grammar.now.maker.names.now grammar.now.depth (F.pre grammar.now.inner)
         (F.post grammar.now.inner) }
     requires same { tokens.old.names ≡ grammar.now.maker.names.now }
@@ -91,11 +83,7 @@ pub(crate) fn scoped<
 }
 
 // The call of the method that an index is.
-fn index(
-    maker: &Maker<'_>,
-    receiver: Grown<Node>,
-    args: Vec<Grown<Node>>,
-) -> Result<Grown<Node>, MakeFault>
+fn index(maker: &Maker<'_>, receiver: Built, args: Vec<Built>) -> Result<Built, MakeFault>
     requires receiver { IsNamed maker.now.names.now receiver }
     requires args { AreNamed maker.now.names.now args.items }
     ensures told { Gives (grown_seen maker.now.names.now) (spec.call (codes "[]")
@@ -111,7 +99,7 @@ fn index(
 pub(crate) fn index_arguments<
     't,
     F: Fn(Maker<'t>, &mut Cursor<'t>, usize, Within) -> Result<Read, MakeFault>,
->(grammar: &Grammar<'t, F>, tokens: &mut Cursor<'t>) -> Result<Vec<Grown<Node>>, MakeFault>
+>(grammar: &Grammar<'t, F>, tokens: &mut Cursor<'t>) -> Result<Vec<Built>, MakeFault>
     requires nests { Nests grammar.now.maker.names.now grammar.now.depth (F.pre grammar.now.inner)
         (F.post grammar.now.inner) }
     requires same { tokens.old.names ≡ grammar.now.maker.names.now }
@@ -132,11 +120,7 @@ pub(crate) fn index_arguments<
 pub(crate) fn indexed<
     't,
     F: Fn(Maker<'t>, &mut Cursor<'t>, usize, Within) -> Result<Read, MakeFault>,
->(
-    grammar: &Grammar<'t, F>,
-    tokens: &mut Cursor<'t>,
-    receiver: Grown<Node>,
-) -> Result<Grown<Node>, MakeFault>
+>(grammar: &Grammar<'t, F>, tokens: &mut Cursor<'t>, receiver: Built) -> Result<Built, MakeFault>
     requires nests { Nests grammar.now.maker.names.now grammar.now.depth (F.pre grammar.now.inner)
         (F.post grammar.now.inner) }
     requires same { tokens.old.names ≡ grammar.now.maker.names.now }
@@ -154,11 +138,7 @@ pub(crate) fn indexed<
 pub(crate) fn scoped_or_indexed<
     't,
     F: Fn(Maker<'t>, &mut Cursor<'t>, usize, Within) -> Result<Read, MakeFault>,
->(
-    grammar: &Grammar<'t, F>,
-    tokens: &mut Cursor<'t>,
-    receiver: Grown<Node>,
-) -> Result<Grown<Node>, MakeFault>
+>(grammar: &Grammar<'t, F>, tokens: &mut Cursor<'t>, receiver: Built) -> Result<Built, MakeFault>
     requires nests { Nests grammar.now.maker.names.now grammar.now.depth (F.pre grammar.now.inner)
         (F.post grammar.now.inner) }
     requires same { tokens.old.names ≡ grammar.now.maker.names.now }
@@ -179,11 +159,7 @@ pub(crate) fn scoped_or_indexed<
 pub(crate) fn suffix<
     't,
     F: Fn(Maker<'t>, &mut Cursor<'t>, usize, Within) -> Result<Read, MakeFault>,
->(
-    grammar: &Grammar<'t, F>,
-    tokens: &mut Cursor<'t>,
-    receiver: Grown<Node>,
-) -> Result<Grown<Node>, MakeFault>
+>(grammar: &Grammar<'t, F>, tokens: &mut Cursor<'t>, receiver: Built) -> Result<Built, MakeFault>
     requires nests { Nests grammar.now.maker.names.now grammar.now.depth (F.pre grammar.now.inner)
         (F.post grammar.now.inner) }
     requires same { tokens.old.names ≡ grammar.now.maker.names.now }
@@ -209,8 +185,8 @@ pub(crate) fn suffixes<
 >(
     grammar: &Grammar<'t, F>,
     tokens: &mut Cursor<'t>,
-    mut receiver: Grown<Node>,
-) -> Result<Grown<Node>, MakeFault>
+    mut receiver: Built,
+) -> Result<Built, MakeFault>
     requires nests { Nests grammar.now.maker.names.now grammar.now.depth (F.pre grammar.now.inner)
         (F.post grammar.now.inner) }
     requires same { tokens.old.names ≡ grammar.now.maker.names.now }
@@ -236,7 +212,7 @@ pub(crate) fn suffixes<
 pub(crate) fn postfix<
     't,
     F: Fn(Maker<'t>, &mut Cursor<'t>, usize, Within) -> Result<Read, MakeFault>,
->(grammar: &Grammar<'t, F>, tokens: &mut Cursor<'t>) -> Result<Grown<Node>, MakeFault>
+>(grammar: &Grammar<'t, F>, tokens: &mut Cursor<'t>) -> Result<Built, MakeFault>
     requires nests { Nests grammar.now.maker.names.now grammar.now.depth (F.pre grammar.now.inner)
         (F.post grammar.now.inner) }
     requires same { tokens.old.names ≡ grammar.now.maker.names.now }
@@ -255,7 +231,7 @@ pub(crate) fn postfix<
 pub(crate) fn negative<
     't,
     F: Fn(Maker<'t>, &mut Cursor<'t>, usize, Within) -> Result<Read, MakeFault>,
->(grammar: &Grammar<'t, F>, tokens: &mut Cursor<'t>) -> Result<Grown<Node>, MakeFault>
+>(grammar: &Grammar<'t, F>, tokens: &mut Cursor<'t>) -> Result<Built, MakeFault>
     requires nests { Nests grammar.now.maker.names.now grammar.now.depth (F.pre grammar.now.inner)
         (F.post grammar.now.inner) }
     requires same { tokens.old.names ≡ grammar.now.maker.names.now }
@@ -266,5 +242,6 @@ pub(crate) fn negative<
 {
     tokens.take_token();
     let number = take_integer(tokens)?;
-    suffixes(grammar, tokens, grammar.maker.integer(number.negated()))
+    let base = grammar.maker.integer(number.negated())?;
+    suffixes(grammar, tokens, base)
 }

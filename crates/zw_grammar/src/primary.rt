@@ -19,7 +19,7 @@ use crate::arguments::{optional_items, parens};
 use crate::sight::{middle_next, parens_next};
 use crate::take::{close_text, take_middle, taken};
 use std::alloc::Global;
-use zw_ast::{Grown, MakeFault, Maker, Malformed, Node, Segment};
+use zw_ast::{Built, MakeFault, Maker, Malformed, Segment};
 use zw_compound::compound;
 use zw_expr::{Cursor, Grammar, Read, Within};
 use zw_lexer::{Keyword, Punctuation, TokenKind};
@@ -31,7 +31,7 @@ use zw_names::Name;
 pub(crate) fn array<
     't,
     F: Fn(Maker<'t>, &mut Cursor<'t>, usize, Within) -> Result<Read, MakeFault>,
->(grammar: &Grammar<'t, F>, tokens: &mut Cursor<'t>) -> Result<Grown<Node>, MakeFault>
+>(grammar: &Grammar<'t, F>, tokens: &mut Cursor<'t>) -> Result<Built, MakeFault>
     requires nests { Nests grammar.now.maker.names.now grammar.now.depth (F.pre grammar.now.inner)
         (F.post grammar.now.inner) }
     requires same { tokens.old.names ≡ grammar.now.maker.names.now }
@@ -47,7 +47,7 @@ pub(crate) fn array<
 }
 
 // Parentheses round one statement add nothing.
-fn grouped_tree(maker: &Maker<'_>, mut all: Vec<Grown<Node>>) -> Result<Grown<Node>, MakeFault>
+fn grouped_tree(maker: &Maker<'_>, mut all: Vec<Built>) -> Result<Built, MakeFault>
     requires { AreNamed maker.now.names.now all.items }
     ensures told { Gives (grown_seen maker.now.names.now)
         (spec.grouped_tree (all_seen maker.now.names.now all.items)) result }
@@ -65,7 +65,7 @@ fn grouped_tree(maker: &Maker<'_>, mut all: Vec<Grown<Node>>) -> Result<Grown<No
 pub(crate) fn grouped<
     't,
     F: Fn(Maker<'t>, &mut Cursor<'t>, usize, Within) -> Result<Read, MakeFault>,
->(grammar: &Grammar<'t, F>, tokens: &mut Cursor<'t>) -> Result<Grown<Node>, MakeFault>
+>(grammar: &Grammar<'t, F>, tokens: &mut Cursor<'t>) -> Result<Built, MakeFault>
     requires nests { Nests grammar.now.maker.names.now grammar.now.depth (F.pre grammar.now.inner)
         (F.post grammar.now.inner) }
     requires same { tokens.old.names ≡ grammar.now.maker.names.now }
@@ -82,11 +82,7 @@ pub(crate) fn grouped<
 
 // A name without parentheses: a variable where it is known.
 #[tactic(auto, unfolding(zw_def_syntax::specs::Tree::node))]
-fn bare_name<'t>(
-    maker: &Maker<'t>,
-    tokens: &Cursor<'t>,
-    name: Name,
-) -> Result<Grown<Node>, MakeFault>
+fn bare_name<'t>(maker: &Maker<'t>, tokens: &Cursor<'t>, name: Name) -> Result<Built, MakeFault>
     requires same { tokens.now.names ≡ maker.now.names.now }
     requires name { IsName maker.now.names.now name }
     ensures told { Gives (grown_seen maker.now.names.now) (Some (leaf (spec.name_tree
@@ -94,9 +90,9 @@ fn bare_name<'t>(
     ensures named { IfOk result (IsNamed maker.now.names.now) }
 {
     if tokens.is_known(name) {
-        Ok(maker.local(name))
+        maker.local(name)
     } else if tokens.is_plain(name) {
-        Ok(maker.ident(name))
+        maker.ident(name)
     } else {
         maker.self_call(name, Vec::new(maker.alloc))
     }
@@ -107,7 +103,7 @@ fn bare_name<'t>(
 pub(crate) fn called_by_name<
     't,
     F: Fn(Maker<'t>, &mut Cursor<'t>, usize, Within) -> Result<Read, MakeFault>,
->(grammar: &Grammar<'t, F>, tokens: &mut Cursor<'t>, name: Name) -> Result<Grown<Node>, MakeFault>
+>(grammar: &Grammar<'t, F>, tokens: &mut Cursor<'t>, name: Name) -> Result<Built, MakeFault>
     requires nests { Nests grammar.now.maker.names.now grammar.now.depth (F.pre grammar.now.inner)
         (F.post grammar.now.inner) }
     requires same { tokens.old.names ≡ grammar.now.maker.names.now }
@@ -127,7 +123,7 @@ pub(crate) fn called_by_name<
 pub(crate) fn named<
     't,
     F: Fn(Maker<'t>, &mut Cursor<'t>, usize, Within) -> Result<Read, MakeFault>,
->(grammar: &Grammar<'t, F>, tokens: &mut Cursor<'t>, name: Name) -> Result<Grown<Node>, MakeFault>
+>(grammar: &Grammar<'t, F>, tokens: &mut Cursor<'t>, name: Name) -> Result<Built, MakeFault>
     requires nests { Nests grammar.now.maker.names.now grammar.now.depth (F.pre grammar.now.inner)
         (F.post grammar.now.inner) }
     requires same { tokens.old.names ≡ grammar.now.maker.names.now }
@@ -151,7 +147,7 @@ pub(crate) fn named<
 pub(crate) fn super_call<
     't,
     F: Fn(Maker<'t>, &mut Cursor<'t>, usize, Within) -> Result<Read, MakeFault>,
->(grammar: &Grammar<'t, F>, tokens: &mut Cursor<'t>) -> Result<Grown<Node>, MakeFault>
+>(grammar: &Grammar<'t, F>, tokens: &mut Cursor<'t>) -> Result<Built, MakeFault>
     requires nests { Nests grammar.now.maker.names.now grammar.now.depth (F.pre grammar.now.inner)
         (F.post grammar.now.inner) }
     requires same { tokens.old.names ≡ grammar.now.maker.names.now }
@@ -169,7 +165,7 @@ pub(crate) fn super_call<
 pub(crate) fn super_rule<
     't,
     F: Fn(Maker<'t>, &mut Cursor<'t>, usize, Within) -> Result<Read, MakeFault>,
->(grammar: &Grammar<'t, F>, tokens: &mut Cursor<'t>) -> Result<Grown<Node>, MakeFault>
+>(grammar: &Grammar<'t, F>, tokens: &mut Cursor<'t>) -> Result<Built, MakeFault>
     requires nests { Nests grammar.now.maker.names.now grammar.now.depth (F.pre grammar.now.inner)
         (F.post grammar.now.inner) }
     requires same { tokens.old.names ≡ grammar.now.maker.names.now }
@@ -182,7 +178,7 @@ pub(crate) fn super_rule<
     if parens_next(tokens) {
         super_call(grammar, tokens)
     } else {
-        Ok(grammar.maker.zsuper())
+        grammar.maker.zsuper()
     }
 }
 
@@ -192,7 +188,7 @@ pub(crate) fn super_rule<
 pub(crate) fn top_constant<
     't,
     F: Fn(Maker<'t>, &mut Cursor<'t>, usize, Within) -> Result<Read, MakeFault>,
->(grammar: &Grammar<'t, F>, tokens: &mut Cursor<'t>) -> Result<Grown<Node>, MakeFault>
+>(grammar: &Grammar<'t, F>, tokens: &mut Cursor<'t>) -> Result<Built, MakeFault>
     requires nests { Nests grammar.now.maker.names.now grammar.now.depth (F.pre grammar.now.inner)
         (F.post grammar.now.inner) }
     requires same { tokens.old.names ≡ grammar.now.maker.names.now }
@@ -203,7 +199,7 @@ pub(crate) fn top_constant<
 {
     tokens.take_token();
     let name = tokens.take_constant()?;
-    Ok(grammar.maker.top_constant(name))
+    grammar.maker.top_constant(name)
 }
 
 /// A text, and the program after it, in an interpolation.
@@ -271,7 +267,7 @@ pub(crate) fn segments<
 pub(crate) fn interpolation<
     't,
     F: Fn(Maker<'t>, &mut Cursor<'t>, usize, Within) -> Result<Read, MakeFault>,
->(grammar: &Grammar<'t, F>, tokens: &mut Cursor<'t>, text: String) -> Result<Grown<Node>, MakeFault>
+>(grammar: &Grammar<'t, F>, tokens: &mut Cursor<'t>, text: String) -> Result<Built, MakeFault>
     requires nests { Nests grammar.now.maker.names.now grammar.now.depth (F.pre grammar.now.inner)
         (F.post grammar.now.inner) }
     requires same { tokens.old.names ≡ grammar.now.maker.names.now }
@@ -294,11 +290,7 @@ pub(crate) fn interpolation<
 pub(crate) fn sign_primary<
     't,
     F: Fn(Maker<'t>, &mut Cursor<'t>, usize, Within) -> Result<Read, MakeFault>,
->(
-    grammar: &Grammar<'t, F>,
-    tokens: &mut Cursor<'t>,
-    sign: Punctuation,
-) -> Result<Grown<Node>, MakeFault>
+>(grammar: &Grammar<'t, F>, tokens: &mut Cursor<'t>, sign: Punctuation) -> Result<Built, MakeFault>
     requires nests { Nests grammar.now.maker.names.now grammar.now.depth (F.pre grammar.now.inner)
         (F.post grammar.now.inner) }
     requires same { tokens.old.names ≡ grammar.now.maker.names.now }
@@ -320,11 +312,7 @@ pub(crate) fn sign_primary<
 pub(crate) fn keyword_primary<
     't,
     F: Fn(Maker<'t>, &mut Cursor<'t>, usize, Within) -> Result<Read, MakeFault>,
->(
-    grammar: &Grammar<'t, F>,
-    tokens: &mut Cursor<'t>,
-    word: Keyword,
-) -> Result<Grown<Node>, MakeFault>
+>(grammar: &Grammar<'t, F>, tokens: &mut Cursor<'t>, word: Keyword) -> Result<Built, MakeFault>
     requires nests { Nests grammar.now.maker.names.now grammar.now.depth (F.pre grammar.now.inner)
         (F.post grammar.now.inner) }
     requires same { tokens.old.names ≡ grammar.now.maker.names.now }
@@ -335,10 +323,10 @@ pub(crate) fn keyword_primary<
     ensures named { IfOk result (IsNamed grammar.now.maker.names.now) }
 {
     match word {
-        Keyword::Nil => Ok(taken(tokens, grammar.maker.nil())),
-        Keyword::True => Ok(taken(tokens, grammar.maker.true_node())),
-        Keyword::False => Ok(taken(tokens, grammar.maker.false_node())),
-        Keyword::SelfWord => Ok(taken(tokens, grammar.maker.self_node())),
+        Keyword::Nil => taken(tokens, grammar.maker.nil()),
+        Keyword::True => taken(tokens, grammar.maker.true_node()),
+        Keyword::False => taken(tokens, grammar.maker.false_node()),
+        Keyword::SelfWord => taken(tokens, grammar.maker.self_node()),
         Keyword::Super => super_rule(grammar, tokens),
         _ => compound(grammar, tokens, word),
     }
@@ -350,7 +338,7 @@ pub(crate) fn keyword_primary<
 pub(crate) fn primary<
     't,
     F: Fn(Maker<'t>, &mut Cursor<'t>, usize, Within) -> Result<Read, MakeFault>,
->(grammar: &Grammar<'t, F>, tokens: &mut Cursor<'t>) -> Result<Grown<Node>, MakeFault>
+>(grammar: &Grammar<'t, F>, tokens: &mut Cursor<'t>) -> Result<Built, MakeFault>
     requires nests { Nests grammar.now.maker.names.now grammar.now.depth (F.pre grammar.now.inner)
         (F.post grammar.now.inner) }
     requires same { tokens.old.names ≡ grammar.now.maker.names.now }
@@ -363,23 +351,22 @@ pub(crate) fn primary<
         return Err(MakeFault::Refused(Malformed));
     };
     match kind {
-        TokenKind::Integer(number) => Ok(taken(tokens, grammar.maker.integer(number.plain()))),
+        TokenKind::Integer(number) => taken(tokens, grammar.maker.integer(number.plain())),
         TokenKind::Text(text) => {
             let text = String::from_str(grammar.maker.alloc, text.as_str())?;
-            Ok(taken(tokens, grammar.maker.text(text)))
+            taken(tokens, grammar.maker.text(text))
         }
         TokenKind::TextBegin(text) => {
             let text = String::from_str(grammar.maker.alloc, text.as_str())?;
             interpolation(grammar, tokens, text)
         }
-        TokenKind::Symbol(name) => Ok(taken(tokens, grammar.maker.symbol(*name))),
-        TokenKind::InstanceVariable(name) => Ok(taken(
-            tokens,
-            grammar.maker.instance_variable(*name),
-        )),
-        TokenKind::ClassVariable(name) => Ok(taken(tokens, grammar.maker.class_variable(*name))),
+        TokenKind::Symbol(name) => taken(tokens, grammar.maker.symbol(*name)),
+        TokenKind::InstanceVariable(name) => {
+            taken(tokens, grammar.maker.instance_variable(*name))
+        }
+        TokenKind::ClassVariable(name) => taken(tokens, grammar.maker.class_variable(*name)),
         TokenKind::Identifier(name) => named(grammar, tokens, *name),
-        TokenKind::Constant(name) => Ok(taken(tokens, grammar.maker.constant(*name))),
+        TokenKind::Constant(name) => taken(tokens, grammar.maker.constant(*name)),
         TokenKind::Keyword(word) => keyword_primary(grammar, tokens, *word),
         TokenKind::Sign(sign) => sign_primary(grammar, tokens, *sign),
         TokenKind::Newline | TokenKind::TextMiddle(_) | TokenKind::TextEnd(_) => {

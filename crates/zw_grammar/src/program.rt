@@ -15,7 +15,7 @@ ghost use Rattle.zw_ast.specs.Named.{AreNamed};
 
 use crate::ahead::program_ends;
 use crate::statement::statement;
-use zw_ast::{Grown, MakeFault, Maker, Node};
+use zw_ast::{Built, MakeFault, Maker};
 use zw_compound::{separator_next, skip_separators};
 use zw_expr::{Cursor, Form, Grammar, Read, Within};
 
@@ -28,8 +28,8 @@ pub(crate) fn with_statement<
 >(
     grammar: &Grammar<'t, F>,
     tokens: &mut Cursor<'t>,
-    mut found: Vec<Grown<Node>>,
-) -> Result<Vec<Grown<Node>>, MakeFault>
+    mut found: Vec<Built>,
+) -> Result<Vec<Built>, MakeFault>
     requires nests { Nests grammar.now.maker.names.now grammar.now.depth (F.pre grammar.now.inner)
         (F.post grammar.now.inner) }
     requires same { tokens.old.names ≡ grammar.now.maker.names.now }
@@ -52,8 +52,8 @@ pub(crate) fn separated<
 >(
     grammar: &Grammar<'t, F>,
     tokens: &mut Cursor<'t>,
-    found: Vec<Grown<Node>>,
-) -> Result<Vec<Grown<Node>>, MakeFault>
+    found: Vec<Built>,
+) -> Result<Vec<Built>, MakeFault>
     requires nests { Nests grammar.now.maker.names.now grammar.now.depth (F.pre grammar.now.inner)
         (F.post grammar.now.inner) }
     requires same { tokens.old.names ≡ grammar.now.maker.names.now }
@@ -81,8 +81,8 @@ pub(crate) fn more_statements<
 >(
     grammar: &Grammar<'t, F>,
     tokens: &mut Cursor<'t>,
-    mut found: Vec<Grown<Node>>,
-) -> Result<Vec<Grown<Node>>, MakeFault>
+    mut found: Vec<Built>,
+) -> Result<Vec<Built>, MakeFault>
     requires nests { Nests grammar.now.maker.names.now grammar.now.depth (F.pre grammar.now.inner)
         (F.post grammar.now.inner) }
     requires same { tokens.old.names ≡ grammar.now.maker.names.now }
@@ -108,7 +108,7 @@ pub(crate) fn more_statements<
 pub(crate) fn program<
     't,
     F: Fn(Maker<'t>, &mut Cursor<'t>, usize, Within) -> Result<Read, MakeFault>,
->(grammar: &Grammar<'t, F>, tokens: &mut Cursor<'t>) -> Result<Vec<Grown<Node>>, MakeFault>
+>(grammar: &Grammar<'t, F>, tokens: &mut Cursor<'t>) -> Result<Vec<Built>, MakeFault>
     requires nests { Nests grammar.now.maker.names.now grammar.now.depth (F.pre grammar.now.inner)
         (F.post grammar.now.inner) }
     requires same { tokens.old.names ≡ grammar.now.maker.names.now }

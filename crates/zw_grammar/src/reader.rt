@@ -13,7 +13,7 @@ use crate::operation::{ternary, unary};
 use crate::program::program;
 use crate::statement::{inverse, line};
 use crate::value::value;
-use zw_ast::{Grown, MakeFault, Maker, Malformed, Node};
+use zw_ast::{Built, MakeFault, Maker, Malformed};
 use zw_expr::{Cursor, Form, Grammar, Read, Within};
 
 /// The rule of a form that stands within others.
@@ -21,7 +21,7 @@ fn rule<'t, F: Fn(Maker<'t>, &mut Cursor<'t>, usize, Within) -> Result<Read, Mak
     grammar: &Grammar<'t, F>,
     tokens: &mut Cursor<'t>,
     form: Form,
-) -> Result<Grown<Node>, MakeFault>
+) -> Result<Built, MakeFault>
     requires nests { Nests grammar.now.maker.names.now grammar.now.depth (F.pre grammar.now.inner)
         (F.post grammar.now.inner) }
     requires same { tokens.old.names ≡ grammar.now.maker.names.now }

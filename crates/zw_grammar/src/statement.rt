@@ -15,7 +15,7 @@ use crate::ahead::{logic_next, loop_next, modifier_next};
 use crate::build::{joined, modified};
 use crate::take::take_any_keyword;
 use crate::value::value;
-use zw_ast::{Grown, MakeFault, Maker, Malformed, Node};
+use zw_ast::{Built, MakeFault, Maker, Malformed, Node};
 use zw_expr::{Cursor, Form, Grammar, Read, Within};
 use zw_lexer::Keyword;
 
@@ -24,7 +24,7 @@ use zw_lexer::Keyword;
 pub(crate) fn negated<
     't,
     F: Fn(Maker<'t>, &mut Cursor<'t>, usize, Within) -> Result<Read, MakeFault>,
->(grammar: &Grammar<'t, F>, tokens: &mut Cursor<'t>) -> Result<Grown<Node>, MakeFault>
+>(grammar: &Grammar<'t, F>, tokens: &mut Cursor<'t>) -> Result<Built, MakeFault>
     requires nests { Nests grammar.now.maker.names.now grammar.now.depth (F.pre grammar.now.inner)
         (F.post grammar.now.inner) }
     requires same { tokens.old.names ≡ grammar.now.maker.names.now }
@@ -43,7 +43,7 @@ pub(crate) fn negated<
 pub(crate) fn inverse<
     't,
     F: Fn(Maker<'t>, &mut Cursor<'t>, usize, Within) -> Result<Read, MakeFault>,
->(grammar: &Grammar<'t, F>, tokens: &mut Cursor<'t>) -> Result<Grown<Node>, MakeFault>
+>(grammar: &Grammar<'t, F>, tokens: &mut Cursor<'t>) -> Result<Built, MakeFault>
     requires nests { Nests grammar.now.maker.names.now grammar.now.depth (F.pre grammar.now.inner)
         (F.post grammar.now.inner) }
     requires same { tokens.old.names ≡ grammar.now.maker.names.now }
@@ -65,11 +65,7 @@ pub(crate) fn inverse<
 pub(crate) fn logic<
     't,
     F: Fn(Maker<'t>, &mut Cursor<'t>, usize, Within) -> Result<Read, MakeFault>,
->(
-    grammar: &Grammar<'t, F>,
-    tokens: &mut Cursor<'t>,
-    left: Grown<Node>,
-) -> Result<Grown<Node>, MakeFault>
+>(grammar: &Grammar<'t, F>, tokens: &mut Cursor<'t>, left: Built) -> Result<Built, MakeFault>
     requires nests { Nests grammar.now.maker.names.now grammar.now.depth (F.pre grammar.now.inner)
         (F.post grammar.now.inner) }
     requires same { tokens.old.names ≡ grammar.now.maker.names.now }
@@ -91,11 +87,7 @@ pub(crate) fn logic<
 pub(crate) fn more_logic<
     't,
     F: Fn(Maker<'t>, &mut Cursor<'t>, usize, Within) -> Result<Read, MakeFault>,
->(
-    grammar: &Grammar<'t, F>,
-    tokens: &mut Cursor<'t>,
-    mut left: Grown<Node>,
-) -> Result<Grown<Node>, MakeFault>
+>(grammar: &Grammar<'t, F>, tokens: &mut Cursor<'t>, mut left: Built) -> Result<Built, MakeFault>
     requires nests { Nests grammar.now.maker.names.now grammar.now.depth (F.pre grammar.now.inner)
         (F.post grammar.now.inner) }
     requires same { tokens.old.names ≡ grammar.now.maker.names.now }
@@ -121,7 +113,7 @@ pub(crate) fn more_logic<
 pub(crate) fn line<'t, F: Fn(Maker<'t>, &mut Cursor<'t>, usize, Within) -> Result<Read, MakeFault>>(
     grammar: &Grammar<'t, F>,
     tokens: &mut Cursor<'t>,
-) -> Result<Grown<Node>, MakeFault>
+) -> Result<Built, MakeFault>
     requires nests { Nests grammar.now.maker.names.now grammar.now.depth (F.pre grammar.now.inner)
         (F.post grammar.now.inner) }
     requires same { tokens.old.names ≡ grammar.now.maker.names.now }
@@ -140,11 +132,7 @@ pub(crate) fn line<'t, F: Fn(Maker<'t>, &mut Cursor<'t>, usize, Within) -> Resul
 pub(crate) fn modifier<
     't,
     F: Fn(Maker<'t>, &mut Cursor<'t>, usize, Within) -> Result<Read, MakeFault>,
->(
-    grammar: &Grammar<'t, F>,
-    tokens: &mut Cursor<'t>,
-    body: Grown<Node>,
-) -> Result<Grown<Node>, MakeFault>
+>(grammar: &Grammar<'t, F>, tokens: &mut Cursor<'t>, body: Built) -> Result<Built, MakeFault>
     requires nests { Nests grammar.now.maker.names.now grammar.now.depth (F.pre grammar.now.inner)
         (F.post grammar.now.inner) }
     requires same { tokens.old.names ≡ grammar.now.maker.names.now }
@@ -166,11 +154,7 @@ pub(crate) fn modifier<
 pub(crate) fn modifiers<
     't,
     F: Fn(Maker<'t>, &mut Cursor<'t>, usize, Within) -> Result<Read, MakeFault>,
->(
-    grammar: &Grammar<'t, F>,
-    tokens: &mut Cursor<'t>,
-    mut body: Grown<Node>,
-) -> Result<Grown<Node>, MakeFault>
+>(grammar: &Grammar<'t, F>, tokens: &mut Cursor<'t>, mut body: Built) -> Result<Built, MakeFault>
     requires nests { Nests grammar.now.maker.names.now grammar.now.depth (F.pre grammar.now.inner)
         (F.post grammar.now.inner) }
     requires same { tokens.old.names ≡ grammar.now.maker.names.now }
@@ -217,8 +201,8 @@ pub(crate) fn after_line<
     grammar: &Grammar<'t, F>,
     tokens: &mut Cursor<'t>,
     begun: bool,
-    body: Grown<Node>,
-) -> Result<Grown<Node>, MakeFault>
+    body: Built,
+) -> Result<Built, MakeFault>
     requires nests { Nests grammar.now.maker.names.now grammar.now.depth (F.pre grammar.now.inner)
         (F.post grammar.now.inner) }
     requires same { tokens.old.names ≡ grammar.now.maker.names.now }
@@ -229,7 +213,7 @@ pub(crate) fn after_line<
     ensures same { tokens.new.names ≡ grammar.now.maker.names.now }
     ensures named { IfOk result (IsNamed grammar.now.maker.names.now) }
 {
-    if loop_is_refused(tokens, begun, &body.form) {
+    if loop_is_refused(tokens, begun, body.form.get()) {
         return Err(MakeFault::Refused(Malformed));
     }
     modifiers(grammar, tokens, body)
@@ -241,7 +225,7 @@ pub(crate) fn after_line<
 pub(crate) fn statement<
     't,
     F: Fn(Maker<'t>, &mut Cursor<'t>, usize, Within) -> Result<Read, MakeFault>,
->(grammar: &Grammar<'t, F>, tokens: &mut Cursor<'t>) -> Result<Grown<Node>, MakeFault>
+>(grammar: &Grammar<'t, F>, tokens: &mut Cursor<'t>) -> Result<Built, MakeFault>
     requires nests { Nests grammar.now.maker.names.now grammar.now.depth (F.pre grammar.now.inner)
         (F.post grammar.now.inner) }
     requires same { tokens.old.names ≡ grammar.now.maker.names.now }

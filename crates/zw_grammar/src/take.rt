@@ -8,12 +8,15 @@ ghost use Rattle.zw_expr.specs.Reads.{Reads};
 ghost use Rattle.zw_expr.specs.Sign.{text_of_sign};
 
 use std::alloc::Global;
-use zw_ast::{Grown, MakeFault, Malformed, Node};
+use zw_ast::{Built, MakeFault, Malformed};
 use zw_expr::{Cursor, Sign};
 use zw_lexer::{Keyword, Magnitude, TokenKind};
 
 /// A node for which the next token alone stands.
-pub(crate) fn taken(tokens: &mut Cursor<'_>, node: Grown<Node>) -> Grown<Node>
+pub(crate) fn taken(
+    tokens: &mut Cursor<'_>,
+    node: Result<Built, MakeFault>,
+) -> Result<Built, MakeFault>
     ensures node { result ≡ node }
     ensures taken { tokens.new.input ≡ next tokens.old.input }
     ensures names { tokens.new.names ≡ tokens.old.names }

@@ -7,7 +7,7 @@ ghost use Rattle.zw_expr.specs.Reads.{Reads};
 
 use crate::reader::read;
 use crate::statement::statement;
-use zw_ast::{Grown, MakeFault, Maker, Node};
+use zw_ast::{Built, MakeFault, Maker};
 use zw_expr::{Cursor, Grammar};
 
 /// How deep forms may stand in one another. Each either stands in a bracket, of which 250 may be open, or raises the
@@ -16,10 +16,7 @@ const MAX_DEPTH: usize = 351;
 
 /// Reads a statement (ISO/IEC 30170, 12). Where there is none, or a node would be too high, it is malformed.
 #[tactic(auto, unfolding(zw_def_syntax::specs::Program::top_statement))]
-pub fn top_statement<'t>(
-    maker: Maker<'t>,
-    tokens: &mut Cursor<'t>,
-) -> Result<Grown<Node>, MakeFault>
+pub fn top_statement<'t>(maker: Maker<'t>, tokens: &mut Cursor<'t>) -> Result<Built, MakeFault>
     requires same { tokens.old.names ≡ maker.names.now }
     ensures reads { Reads (grown_seen maker.entry.names.now) top_statement tokens.old.input result tokens.new.input }
     ensures same { tokens.new.names ≡ maker.entry.names.now }

@@ -17,7 +17,7 @@ ghost use Rattle.zw_grammar.specs.Part as part;
 ghost use Rattle.zw_grammar.specs.Variable.{name_in, read_of, set_by};
 
 use crate::variable::{Variable, read, set};
-use zw_ast::{Grown, MakeFault, Maker, Malformed, Node};
+use zw_ast::{Built, MakeFault, Maker, Malformed};
 use zw_expr::{Cursor, Form, Grammar, Read, Within};
 use zw_lexer::{Punctuation, TokenKind};
 use zw_names::Name;
@@ -44,8 +44,8 @@ fn set_to_call(
     maker: &Maker<'_>,
     sign: Punctuation,
     variable: Variable,
-    value: Grown<Node>,
-) -> Result<Grown<Node>, MakeFault>
+    value: Built,
+) -> Result<Built, MakeFault>
     requires sign { is_among (codes "+= -= *= /= %=") (sign_text sign) ≡ true }
     requires variable { IsName maker.now.names.now (name_in variable) }
     requires value { IsNamed maker.now.names.now value }
@@ -57,7 +57,8 @@ fn set_to_call(
     let name = maker.operator(operator_of(sign));
     let mut args = Vec::new(maker.alloc);
     args.push(value)?;
-    let called = maker.call(read(maker, variable), name, args)?;
+    let present = read(maker, variable)?;
+    let called = maker.call(present, name, args)?;
     set(maker, variable, called)
 }
 
@@ -66,8 +67,8 @@ fn updated_node(
     maker: &Maker<'_>,
     sign: Punctuation,
     variable: Variable,
-    value: Grown<Node>,
-) -> Result<Grown<Node>, MakeFault>
+    value: Built,
+) -> Result<Built, MakeFault>
     requires sign { is_among (codes "+= -= *= /= %= ||= &&=") (sign_text sign) ≡ true }
     requires variable { IsName maker.now.names.now (name_in variable) }
     requires value { IsNamed maker.now.names.now value }
@@ -79,11 +80,13 @@ fn updated_node(
     match sign {
         Punctuation::OrAssign => {
             let whole = set(maker, variable, value)?;
-            maker.disjunction(read(maker, variable), whole)
+            let present = read(maker, variable)?;
+            maker.disjunction(present, whole)
         }
         Punctuation::AndAssign => {
             let whole = set(maker, variable, value)?;
-            maker.conjunction(read(maker, variable), whole)
+            let present = read(maker, variable)?;
+            maker.conjunction(present, whole)
         }
         _ => set_to_call(maker, sign, variable, value),
     }
@@ -110,11 +113,7 @@ fn take_any_sign(tokens: &mut Cursor<'_>) -> Result<Punctuation, MakeFault>
 pub(crate) fn updated<
     't,
     F: Fn(Maker<'t>, &mut Cursor<'t>, usize, Within) -> Result<Read, MakeFault>,
->(
-    grammar: &Grammar<'t, F>,
-    tokens: &mut Cursor<'t>,
-    variable: Variable,
-) -> Result<Grown<Node>, MakeFault>
+>(grammar: &Grammar<'t, F>, tokens: &mut Cursor<'t>, variable: Variable) -> Result<Built, MakeFault>
     requires nests { Nests grammar.now.maker.names.now grammar.now.depth (F.pre grammar.now.inner)
         (F.post grammar.now.inner) }
     requires same { tokens.old.names ≡ grammar.now.maker.names.now }
@@ -136,7 +135,7 @@ pub(crate) fn updated<
 pub(crate) fn local_update<
     't,
     F: Fn(Maker<'t>, &mut Cursor<'t>, usize, Within) -> Result<Read, MakeFault>,
->(grammar: &Grammar<'t, F>, tokens: &mut Cursor<'t>, name: Name) -> Result<Grown<Node>, MakeFault>
+>(grammar: &Grammar<'t, F>, tokens: &mut Cursor<'t>, name: Name) -> Result<Built, MakeFault>
     requires nests { Nests grammar.now.maker.names.now grammar.now.depth (F.pre grammar.now.inner)
         (F.post grammar.now.inner) }
     requires same { tokens.old.names ≡ grammar.now.maker.names.now }
@@ -157,7 +156,7 @@ pub(crate) fn local_update<
 pub(crate) fn update<
     't,
     F: Fn(Maker<'t>, &mut Cursor<'t>, usize, Within) -> Result<Read, MakeFault>,
->(grammar: &Grammar<'t, F>, tokens: &mut Cursor<'t>) -> Result<Grown<Node>, MakeFault>
+>(grammar: &Grammar<'t, F>, tokens: &mut Cursor<'t>) -> Result<Built, MakeFault>
     requires nests { Nests grammar.now.maker.names.now grammar.now.depth (F.pre grammar.now.inner)
         (F.post grammar.now.inner) }
     requires same { tokens.old.names ≡ grammar.now.maker.names.now }

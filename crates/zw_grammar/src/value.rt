@@ -22,7 +22,7 @@ use crate::postfix::suffix;
 use crate::primary::primary;
 use crate::take::taken;
 use crate::update::update;
-use zw_ast::{Grown, MakeFault, Maker, Node};
+use zw_ast::{Built, MakeFault, Maker};
 use zw_expr::{Cursor, Form, Grammar, Read, Within};
 use zw_lexer::Keyword;
 
@@ -35,8 +35,8 @@ pub(crate) fn plain_suffixes<
 >(
     grammar: &Grammar<'t, F>,
     tokens: &mut Cursor<'t>,
-    mut receiver: Grown<Node>,
-) -> Result<Grown<Node>, MakeFault>
+    mut receiver: Built,
+) -> Result<Built, MakeFault>
     requires nests { Nests grammar.now.maker.names.now grammar.now.depth (F.pre grammar.now.inner)
         (F.post grammar.now.inner) }
     requires same { tokens.old.names ≡ grammar.now.maker.names.now }
@@ -60,11 +60,7 @@ pub(crate) fn plain_suffixes<
 pub(crate) fn call_or_operation<
     't,
     F: Fn(Maker<'t>, &mut Cursor<'t>, usize, Within) -> Result<Read, MakeFault>,
->(
-    grammar: &Grammar<'t, F>,
-    tokens: &mut Cursor<'t>,
-    receiver: Grown<Node>,
-) -> Result<Grown<Node>, MakeFault>
+>(grammar: &Grammar<'t, F>, tokens: &mut Cursor<'t>, receiver: Built) -> Result<Built, MakeFault>
     requires nests { Nests grammar.now.maker.names.now grammar.now.depth (F.pre grammar.now.inner)
         (F.post grammar.now.inner) }
     requires same { tokens.old.names ≡ grammar.now.maker.names.now }
@@ -85,11 +81,7 @@ pub(crate) fn call_or_operation<
 pub(crate) fn attribute_or_call<
     't,
     F: Fn(Maker<'t>, &mut Cursor<'t>, usize, Within) -> Result<Read, MakeFault>,
->(
-    grammar: &Grammar<'t, F>,
-    tokens: &mut Cursor<'t>,
-    receiver: Grown<Node>,
-) -> Result<Grown<Node>, MakeFault>
+>(grammar: &Grammar<'t, F>, tokens: &mut Cursor<'t>, receiver: Built) -> Result<Built, MakeFault>
     requires nests { Nests grammar.now.maker.names.now grammar.now.depth (F.pre grammar.now.inner)
         (F.post grammar.now.inner) }
     requires same { tokens.old.names ≡ grammar.now.maker.names.now }
@@ -110,11 +102,7 @@ pub(crate) fn attribute_or_call<
 pub(crate) fn behind_postfix<
     't,
     F: Fn(Maker<'t>, &mut Cursor<'t>, usize, Within) -> Result<Read, MakeFault>,
->(
-    grammar: &Grammar<'t, F>,
-    tokens: &mut Cursor<'t>,
-    receiver: Grown<Node>,
-) -> Result<Grown<Node>, MakeFault>
+>(grammar: &Grammar<'t, F>, tokens: &mut Cursor<'t>, receiver: Built) -> Result<Built, MakeFault>
     requires nests { Nests grammar.now.maker.names.now grammar.now.depth (F.pre grammar.now.inner)
         (F.post grammar.now.inner) }
     requires same { tokens.old.names ≡ grammar.now.maker.names.now }
@@ -137,7 +125,7 @@ pub(crate) fn behind_postfix<
 pub(crate) fn postfix_value<
     't,
     F: Fn(Maker<'t>, &mut Cursor<'t>, usize, Within) -> Result<Read, MakeFault>,
->(grammar: &Grammar<'t, F>, tokens: &mut Cursor<'t>) -> Result<Grown<Node>, MakeFault>
+>(grammar: &Grammar<'t, F>, tokens: &mut Cursor<'t>) -> Result<Built, MakeFault>
     requires nests { Nests grammar.now.maker.names.now grammar.now.depth (F.pre grammar.now.inner)
         (F.post grammar.now.inner) }
     requires same { tokens.old.names ≡ grammar.now.maker.names.now }
@@ -157,7 +145,7 @@ pub(crate) fn postfix_value<
 pub(crate) fn return_rule<
     't,
     F: Fn(Maker<'t>, &mut Cursor<'t>, usize, Within) -> Result<Read, MakeFault>,
->(grammar: &Grammar<'t, F>, tokens: &mut Cursor<'t>) -> Result<Grown<Node>, MakeFault>
+>(grammar: &Grammar<'t, F>, tokens: &mut Cursor<'t>) -> Result<Built, MakeFault>
     requires nests { Nests grammar.now.maker.names.now grammar.now.depth (F.pre grammar.now.inner)
         (F.post grammar.now.inner) }
     requires same { tokens.old.names ≡ grammar.now.maker.names.now }
@@ -168,7 +156,7 @@ pub(crate) fn return_rule<
 {
     tokens.take_token();
     if return_ends(tokens) {
-        return Ok(grammar.maker.return_nothing());
+        return grammar.maker.return_nothing();
     }
     let value = grammar.tree(tokens, Form::Value)?;
     grammar.maker.return_value(value)
@@ -178,7 +166,7 @@ pub(crate) fn return_rule<
 pub(crate) fn plain_operation<
     't,
     F: Fn(Maker<'t>, &mut Cursor<'t>, usize, Within) -> Result<Read, MakeFault>,
->(grammar: &Grammar<'t, F>, tokens: &mut Cursor<'t>) -> Result<Grown<Node>, MakeFault>
+>(grammar: &Grammar<'t, F>, tokens: &mut Cursor<'t>) -> Result<Built, MakeFault>
     requires nests { Nests grammar.now.maker.names.now grammar.now.depth (F.pre grammar.now.inner)
         (F.post grammar.now.inner) }
     requires same { tokens.old.names ≡ grammar.now.maker.names.now }
@@ -198,7 +186,7 @@ pub(crate) fn plain_operation<
 pub(crate) fn super_or_operation<
     't,
     F: Fn(Maker<'t>, &mut Cursor<'t>, usize, Within) -> Result<Read, MakeFault>,
->(grammar: &Grammar<'t, F>, tokens: &mut Cursor<'t>) -> Result<Grown<Node>, MakeFault>
+>(grammar: &Grammar<'t, F>, tokens: &mut Cursor<'t>) -> Result<Built, MakeFault>
     requires nests { Nests grammar.now.maker.names.now grammar.now.depth (F.pre grammar.now.inner)
         (F.post grammar.now.inner) }
     requires same { tokens.old.names ≡ grammar.now.maker.names.now }
@@ -218,7 +206,7 @@ pub(crate) fn super_or_operation<
 pub(crate) fn operation<
     't,
     F: Fn(Maker<'t>, &mut Cursor<'t>, usize, Within) -> Result<Read, MakeFault>,
->(grammar: &Grammar<'t, F>, tokens: &mut Cursor<'t>) -> Result<Grown<Node>, MakeFault>
+>(grammar: &Grammar<'t, F>, tokens: &mut Cursor<'t>) -> Result<Built, MakeFault>
     requires nests { Nests grammar.now.maker.names.now grammar.now.depth (F.pre grammar.now.inner)
         (F.post grammar.now.inner) }
     requires same { tokens.old.names ≡ grammar.now.maker.names.now }
@@ -238,7 +226,7 @@ pub(crate) fn operation<
 pub(crate) fn next_or_operation<
     't,
     F: Fn(Maker<'t>, &mut Cursor<'t>, usize, Within) -> Result<Read, MakeFault>,
->(grammar: &Grammar<'t, F>, tokens: &mut Cursor<'t>) -> Result<Grown<Node>, MakeFault>
+>(grammar: &Grammar<'t, F>, tokens: &mut Cursor<'t>) -> Result<Built, MakeFault>
     requires nests { Nests grammar.now.maker.names.now grammar.now.depth (F.pre grammar.now.inner)
         (F.post grammar.now.inner) }
     requires same { tokens.old.names ≡ grammar.now.maker.names.now }
@@ -248,7 +236,7 @@ pub(crate) fn next_or_operation<
     ensures named { IfOk result (IsNamed grammar.now.maker.names.now) }
 {
     if tokens.keyword_next(Keyword::Next) {
-        Ok(taken(tokens, grammar.maker.next_node()))
+        taken(tokens, grammar.maker.next_node())
     } else {
         operation(grammar, tokens)
     }
@@ -258,7 +246,7 @@ pub(crate) fn next_or_operation<
 pub(crate) fn break_or_operation<
     't,
     F: Fn(Maker<'t>, &mut Cursor<'t>, usize, Within) -> Result<Read, MakeFault>,
->(grammar: &Grammar<'t, F>, tokens: &mut Cursor<'t>) -> Result<Grown<Node>, MakeFault>
+>(grammar: &Grammar<'t, F>, tokens: &mut Cursor<'t>) -> Result<Built, MakeFault>
     requires nests { Nests grammar.now.maker.names.now grammar.now.depth (F.pre grammar.now.inner)
         (F.post grammar.now.inner) }
     requires same { tokens.old.names ≡ grammar.now.maker.names.now }
@@ -268,7 +256,7 @@ pub(crate) fn break_or_operation<
     ensures named { IfOk result (IsNamed grammar.now.maker.names.now) }
 {
     if tokens.keyword_next(Keyword::Break) {
-        Ok(taken(tokens, grammar.maker.break_node()))
+        taken(tokens, grammar.maker.break_node())
     } else {
         next_or_operation(grammar, tokens)
     }
@@ -278,7 +266,7 @@ pub(crate) fn break_or_operation<
 pub(crate) fn action<
     't,
     F: Fn(Maker<'t>, &mut Cursor<'t>, usize, Within) -> Result<Read, MakeFault>,
->(grammar: &Grammar<'t, F>, tokens: &mut Cursor<'t>) -> Result<Grown<Node>, MakeFault>
+>(grammar: &Grammar<'t, F>, tokens: &mut Cursor<'t>) -> Result<Built, MakeFault>
     requires nests { Nests grammar.now.maker.names.now grammar.now.depth (F.pre grammar.now.inner)
         (F.post grammar.now.inner) }
     requires same { tokens.old.names ≡ grammar.now.maker.names.now }
@@ -298,7 +286,7 @@ pub(crate) fn action<
 pub(crate) fn update_or_action<
     't,
     F: Fn(Maker<'t>, &mut Cursor<'t>, usize, Within) -> Result<Read, MakeFault>,
->(grammar: &Grammar<'t, F>, tokens: &mut Cursor<'t>) -> Result<Grown<Node>, MakeFault>
+>(grammar: &Grammar<'t, F>, tokens: &mut Cursor<'t>) -> Result<Built, MakeFault>
     requires nests { Nests grammar.now.maker.names.now grammar.now.depth (F.pre grammar.now.inner)
         (F.post grammar.now.inner) }
     requires same { tokens.old.names ≡ grammar.now.maker.names.now }
@@ -319,7 +307,7 @@ pub(crate) fn update_or_action<
 pub(crate) fn value<
     't,
     F: Fn(Maker<'t>, &mut Cursor<'t>, usize, Within) -> Result<Read, MakeFault>,
->(grammar: &Grammar<'t, F>, tokens: &mut Cursor<'t>) -> Result<Grown<Node>, MakeFault>
+>(grammar: &Grammar<'t, F>, tokens: &mut Cursor<'t>) -> Result<Built, MakeFault>
     requires nests { Nests grammar.now.maker.names.now grammar.now.depth (F.pre grammar.now.inner)
         (F.post grammar.now.inner) }
     requires same { tokens.old.names ≡ grammar.now.maker.names.now }

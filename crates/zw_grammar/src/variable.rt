@@ -1,12 +1,12 @@
 //! Variables that are set. Section numbers are those of ISO/IEC 30170.
-ghost use Rattle.std.specs.Prelude.{◌≡◌, IfOk};
+ghost use Rattle.std.specs.Prelude.{◌≡◌, IfOk, Some};
 ghost use Rattle.zw_def_syntax.specs.Tree.{leaf, over};
 ghost use Rattle.zw_ast.specs.Gives.{Gives};
 ghost use Rattle.zw_ast.specs.Grown.{grown_seen};
 ghost use Rattle.zw_ast.specs.Named.{IsName, IsNamed};
 ghost use Rattle.zw_grammar.specs.Variable.{name_in, read_of, set_by};
 
-use zw_ast::{Grown, MakeFault, Maker, Node};
+use zw_ast::{Built, MakeFault, Maker};
 use zw_names::Name;
 
 /// A variable, by its name (11.5.4).
@@ -18,10 +18,11 @@ pub(crate) enum Variable {
 }
 
 /// The variable's value.
-pub(crate) fn read(maker: &Maker<'_>, variable: Variable) -> Grown<Node>
+pub(crate) fn read(maker: &Maker<'_>, variable: Variable) -> Result<Built, MakeFault>
     requires variable { IsName maker.now.names.now (name_in variable) }
-    ensures told { grown_seen maker.now.names.now result ≡ leaf (read_of maker.now.names.now variable) }
-    ensures named { IsNamed maker.now.names.now result }
+    ensures told { Gives (grown_seen maker.now.names.now)
+        (Some (leaf (read_of maker.now.names.now variable))) result }
+    ensures named { IfOk result (IsNamed maker.now.names.now) }
 {
     match variable {
         Variable::Local(name) => maker.local(name),
@@ -31,11 +32,7 @@ pub(crate) fn read(maker: &Maker<'_>, variable: Variable) -> Grown<Node>
 }
 
 /// An assignment to the variable (11.4.2.2).
-pub(crate) fn set(
-    maker: &Maker<'_>,
-    variable: Variable,
-    value: Grown<Node>,
-) -> Result<Grown<Node>, MakeFault>
+pub(crate) fn set(maker: &Maker<'_>, variable: Variable, value: Built) -> Result<Built, MakeFault>
     requires variable { IsName maker.now.names.now (name_in variable) }
     requires value { IsNamed maker.now.names.now value }
     ensures told { Gives (grown_seen maker.now.names.now)

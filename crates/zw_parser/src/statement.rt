@@ -9,7 +9,7 @@ ghost use Rattle.zw_ast.specs.Program.{statement_names, statement_seen};
 ghost use Rattle.zw_lexer.specs.Fault.{Agrees, fault_seen};
 ghost use Rattle.zw_parser.specs.Statement.{judged, read_statement, separated};
 
-use zw_ast::{Grown, MakeFault, Maker, Node, Statement};
+use zw_ast::{Built, MakeFault, Maker, Statement};
 use zw_base::Fault;
 use zw_compound::separator_next;
 use zw_expr::Cursor;
@@ -41,7 +41,7 @@ fn statement_on<'t>(
     maker: Maker<'t>,
     tokens: &mut Cursor<'t>,
     line: usize,
-) -> Result<Grown<Node>, ParseFault>
+) -> Result<Built, ParseFault>
     requires same { tokens.old.names ≡ maker.names.now }
     ensures told { Agrees (λ node. (grown_seen maker.entry.names.now node, tokens.new.input)) fault_seen result
         (separated line (spec.top_statement tokens.old.input)) }
@@ -57,7 +57,7 @@ fn statement_on<'t>(
 }
 
 // The statement, unless a node in it is out of place.
-fn placed(maker: &Maker<'_>, line: usize, node: Grown<Node>) -> Result<Statement, ParseFault>
+fn placed(maker: &Maker<'_>, line: usize, node: Built) -> Result<Statement, ParseFault>
     requires { IsNamed maker.now.names.now node }
     ensures told { Agrees (statement_seen maker.now.names.now) fault_seen result
         (judged line (tree_seen maker.now.names.now node.form)
@@ -65,11 +65,11 @@ fn placed(maker: &Maker<'_>, line: usize, node: Grown<Node>) -> Result<Statement
     ensures named { IfOk result (λ s. statement_names s ≤ length maker.now.names.now) }
 {
     maker.names.are_distinct();
-    match fault_of(maker.alloc, &node.form)? {
+    match fault_of(maker.alloc, node.form.get())? {
         Some(reason) => Err(ParseFault::Refused(SyntaxFault { line, reason })),
         None => Ok(Statement {
             line,
-            node: node.form,
+            node: node.form.into_inner(),
         }),
     }
 }

@@ -1,5 +1,5 @@
 use Rattle.std.proofs.Common.{◌≡◌, ◌-◌}
-use Rattle.zw_def_syntax.specs.Expression.{suffix, suffix_next, suffixes}
+use Rattle.zw_def_syntax.specs.Expression.{suffix, suffix_next}
 use Rattle.zw_def_syntax.specs.Grammar.{within}
 use Rattle.zw_def_syntax.specs.Input.{repeated, turns}
 use Rattle.zw_ast.specs.Grown.{grown_seen}

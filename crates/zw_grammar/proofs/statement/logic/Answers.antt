@@ -1,4 +1,3 @@
-use Rattle.std.proofs.Common.{rules}
 use Rattle.zw_def_syntax.specs.Grammar as spec
 use Rattle.zw_def_syntax.specs.Grammar.{within}
 use Rattle.zw_ast.specs.Grown.{grown_seen}
