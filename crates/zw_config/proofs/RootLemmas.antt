@@ -1,15 +1,18 @@
--- Roots: the path that no root before has, and names that stay as they are.
-use Rattle.std.proofs.Common.{◌≡◌, Bool, true, false, cond, List, [], ◌∷◌, ◌++◌, codes, map, Some, Ok, Err, ap, sym, ◌∙◌}
+-- Roots: the path that no root before has, the paths of those before, and names that stay as they are.
+use Rattle.std.proofs.Common.{◌≡◌, ◌||◌, Bool, true, false, cond, List, [], ◌∷◌, ◌++◌, codes, map, Some, Ok, Err, refl, ap, sym, ◌∙◌}
+use Rattle.std.specs.BTreeMap.{is_at}
+use Rattle.std.specs.BTreeSet.{BTreeSet, contains}
 use Rattle.std.specs.List.{All, list_any}
 use Rattle.std.proofs.lemmas.List.{map-append}
 use Rattle.std.proofs.lemmas.List.Elements.{All-push}
 use Rattle.toml.specs.Data.{Data, Members}
-use Rattle.zw_lemmas.proofs.AnyLemmas.{list_any-map}
 use Rattle.zw_lemmas.proofs.ListLemmas.{map-same}
 use Rattle.zw_def.specs.Text.{Text}
-use Rattle.zw_def.specs.Path.{Path, path_text, same_path}
+use Rattle.zw_def.specs.Path.{Path, path_cmp, path_text, same_path}
+use Rattle.zw_def.specs.Layout as defined
 use Rattle.zw_def.specs.Names.{OnlyGrows}
 use Rattle.zw_def.proofs.NameLemmas.{AreNamed-grown, texts_of-grown}
+use Rattle.zw_def.proofs.PathOrderLemmas.{same_tied}
 use Rattle.zw_inflect.specs.declared.layout.Root.{Root}
 use Rattle.zw_inflect.specs.declared.layout.Layout.{Layout}
 use Rattle.zw_inflect.specs.Inflector.{inflector_seen}
@@ -18,23 +21,48 @@ use Rattle.zw_def_config.specs.Fault.{◌>>=◌, double_root}
 use Rattle.zw_def_config.specs.Value.{path_in, required}
 use Rattle.zw_def_config.specs.Key.{at}
 use Rattle.zw_def_config.specs.Root.{root_path, new_path}
-use Rattle.zw_config.specs.Root.{IsNamed}
+use Rattle.zw_config.specs.Root.{HasPaths, IsNamed}
 
 -- ---- the path of a root
 
-module _ (names : List Text) (roots : List Root) (table : Members) (value : Data) (path : Path)
+module _ (before : List defined.Root) (table : Members) (value : Data) (path : Path)
     (found : Some value ≡ at (codes "path") table) (read : path_in (codes "root.path") value ≡ Ok path) where
-  path_tried : (b : Bool) → list_any (λ r. same_path r.path path) roots ≡ b → root_path (map (root_seen names) roots) table ≡ cond b (Err (double_root (path_text path))) (Ok path)
+  path_tried : (b : Bool) → list_any (λ r. same_path r.path path) before ≡ b
+      → root_path before table ≡ cond b (Err (double_root (path_text path))) (Ok path)
   path_tried b any =
-      ap (λ o. required (codes "root.path") (path_in (codes "root.path")) o >>= new_path (map (root_seen names) roots)) (sym found)
-      ∙ ap (λ r. r >>= new_path (map (root_seen names) roots)) read
-      ∙ ap (λ b. cond b (Err (double_root (path_text path))) (Ok path)) (list_any-map (root_seen names) (λ r. same_path r.path path) roots ∙ any)
+      ap (λ o. required (codes "root.path") (path_in (codes "root.path")) o >>= new_path before) (sym found)
+      ∙ ap (λ r. r >>= new_path before) read
+      ∙ ap (λ b. cond b (Err (double_root (path_text path))) (Ok path)) any
 
-  pub path_new : list_any (λ r. same_path r.path path) roots ≡ false → root_path (map (root_seen names) roots) table ≡ Ok path
+  pub path_new : list_any (λ r. same_path r.path path) before ≡ false → root_path before table ≡ Ok path
   path_new any = path_tried false any
 
-  pub path_double : list_any (λ r. same_path r.path path) roots ≡ true → root_path (map (root_seen names) roots) table ≡ Err (double_root (path_text path))
+  pub path_double : list_any (λ r. same_path r.path path) before ≡ true
+      → root_path before table ≡ Err (double_root (path_text path))
   path_double any = path_tried true any
+
+-- ---- the paths of roots
+
+any_pushed : (t : defined.Root → Bool) (before : List defined.Root) (root : defined.Root)
+    → list_any t (before ++ root ∷ []) ≡ cond (t root) true (list_any t before)
+any_pushed t [] root = by (t root) where
+  by : (b : Bool) → (b || false) ≡ cond b true false
+  by true = refl
+  by false = refl
+any_pushed t (r ∷ rs) root = ap (λ b. t r || b) (any_pushed t rs root) ∙ by (t r) (t root) (list_any t rs) where
+  by : (a b c : Bool) → (a || cond b true c) ≡ cond b true (a || c)
+  by true true c = refl
+  by true false c = refl
+  by false b c = refl
+
+pub paths_pushed : (old new : BTreeSet Path) (before : List defined.Root) (path : Path) (root : defined.Root)
+    → HasPaths old before → path ≡ root.path
+    → ((q : Path) → contains path_cmp new q ≡ cond (is_at (path_cmp path) q) true (contains path_cmp old q))
+    → HasPaths new (before ++ root ∷ [])
+paths_pushed old new before path root has is updates q =
+    updates q
+    ∙ (λ i. cond ((sym (same_tied path q) ∙ ap (λ p. same_path p q) is) i) true (has q i))
+    ∙ sym (any_pushed (λ r. same_path r.path q) before root)
 
 -- ---- names that grow
 

@@ -9,7 +9,7 @@ use std::alloc::Global;
 use toml::Table;
 
 /// The table that the bytes are.
-pub(crate) fn document(alloc: Global, bytes: &[u8]) -> Result<Table, ReadFault>
+pub fn table_of(alloc: Global, bytes: &[u8]) -> Result<Table, ReadFault>
     ensures { Gives table_view result (spec.document bytes.now) }
 {
     match toml::table_from_slice(alloc, bytes) {

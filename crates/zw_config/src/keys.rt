@@ -11,7 +11,7 @@ use std::alloc::Global;
 use toml::{Table, Value};
 
 /// The value at a key.
-pub(crate) fn value_at<'a>(table: &'a Table, key: &str) -> Option<&'a Value>
+pub fn value_at<'a>(table: &'a Table, key: &str) -> Option<&'a Value>
     ensures { option_map (λ v. view v.now) result ≡ spec.at key.now (table_view table.now) }
 {
     table.get(key)
@@ -35,6 +35,13 @@ fn least_unknown<'a>(table: &'a Table, known: &[&str]) -> Option<&'a String>
         }
     }
     None
+}
+
+/// Whether a table has no other keys than these.
+pub fn has_only(table: &Table, known: &[&str]) -> bool
+    ensures { result ≡ spec.has_only (map (λ k. k.now) known.now) (table_view table.now) }
+{
+    least_unknown(table, known).is_none()
 }
 
 /// Nothing, unless the table has a key that is not known: of these the least is told, behind the prefix.

@@ -15,5 +15,7 @@ mod roots;
 mod value;
 mod whole;
 
+pub use document::table_of;
 pub use fault::{ConfigFault, ReadFault};
-pub use whole::{Config, read};
+pub use keys::{has_only, value_at};
+pub use whole::{Config, read, read_table};

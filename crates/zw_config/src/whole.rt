@@ -8,7 +8,7 @@ ghost use Rattle.zw_config.specs.Config.{IsNamed, config_seen};
 ghost use Rattle.zw_config.specs.Fault.{Gives};
 
 use crate::callbacks::callbacks;
-use crate::document::document;
+use crate::document::table_of;
 use crate::fault::ReadFault;
 use crate::flags::{boot_file, flag};
 use crate::keys::only_known;
@@ -69,15 +69,27 @@ fn settings(alloc: Global, names: &mut Names, table: &Table) -> Result<Config, R
     })
 }
 
-/// What the bytes of a configuration say, or the first reason to refuse them: they are no document of TOML, then the least
-/// unknown key in byte order, then each key in its order. Names may have been made after a refusal, too.
+/// What a configuration says whose document is the table, or the first reason to refuse it: the least unknown key in byte
+/// order, then each key in its order. Names may have been made after a refusal, too.
+#[tactic(auto, unfolding(zw_def_config::specs::Configuration::configuration_in))]
+pub fn read_table(alloc: Global, table: &Table, names: &mut Names) -> Result<Config, ReadFault>
+    ensures told { (path : paths.Path) → Gives (config_seen path names.new) result
+        (spec.configuration_in path (table_view table.now)) }
+    ensures named { IfOk result (IsNamed names.new) }
+    ensures grows { OnlyGrows names.old names.new }
+{
+    only_known(alloc, "", &KEYS, table)?;
+    settings(alloc, names, table)
+}
+
+/// What the bytes of a configuration say, or the first reason to refuse them: they are no document of TOML, or what refuses
+/// the table that they are. Names may have been made after a refusal, too.
 #[tactic(auto, unfolding(zw_def_config::specs::Configuration::configuration_of))]
 pub fn read(alloc: Global, bytes: &[u8], names: &mut Names) -> Result<Config, ReadFault>
     ensures told { (path : paths.Path) → Gives (config_seen path names.new) result (spec.configuration_of path bytes.now) }
     ensures named { IfOk result (IsNamed names.new) }
     ensures grows { OnlyGrows names.old names.new }
 {
-    let table = document(alloc, bytes)?;
-    only_known(alloc, "", &KEYS, &table)?;
-    settings(alloc, names, &table)
+    let table = table_of(alloc, bytes)?;
+    read_table(alloc, &table, names)
 }

@@ -20,8 +20,8 @@ use Rattle.toml.proofs.OnLiterals.{toml_on_literals}
 use Rattle.zw_def_config.specs.Root.{root_of_table}
 use Rattle.zw_def_config.specs.Inflection.{inflector}
 use Rattle.zw_def_config.specs.Callback.{callback_of_table}
-use Rattle.zw_def_config.specs.Configuration.{layout, settings, configuration_of}
+use Rattle.zw_def_config.specs.Configuration.{layout, settings, configuration_in, configuration_of}
 
 unfoldable pub reading : Unit {0}
-unfolding toml_on_literals root_of_table inflector callback_of_table layout settings configuration_of encode_utf8 digits chars is_utf8 unicode_ident lexed settled without_ends_before keywords outside_words scanned piece_at sign_at signs greatest_integer content node token_at is_known turns next open_bracket close_bracket learn know apart joined_from folded skip_separators separators then_word do_word longer_path cpath path paths word_method method_name arm if_rule unless_rule loop_rule rescue_variable rescue_clause clauses begin_rule param plist optional_params method on_self def_rule superclass class_rule module_rule compound take_integer close_text arguments parens items array grouped named super_rule top_constant segment interpolation primary called scoped indexed suffixes postfix negative unary operand operation_from alternatives ternary_from ternary assigned assignment updated update return_rule command super_command scoped_assignment attribute_assignment call_command postfix_value value inverse logic line modifier statement separated program within some_node some_tree some_perhaps some_branch some_base some_part some_rescue some_default top_statement parsed_from parsed program_of spelled spelled_path spelled_body spelled_each spelled_paths spelled_value spelled_superclass spelled_branch spelled_base spelled_first spelled_rest spelled_clauses spelled_defaults show
+unfolding toml_on_literals root_of_table inflector callback_of_table layout settings configuration_in configuration_of encode_utf8 digits chars is_utf8 unicode_ident lexed settled without_ends_before keywords outside_words scanned piece_at sign_at signs greatest_integer content node token_at is_known turns next open_bracket close_bracket learn know apart joined_from folded skip_separators separators then_word do_word longer_path cpath path paths word_method method_name arm if_rule unless_rule loop_rule rescue_variable rescue_clause clauses begin_rule param plist optional_params method on_self def_rule superclass class_rule module_rule compound take_integer close_text arguments parens items array grouped named super_rule top_constant segment interpolation primary called scoped indexed suffixes postfix negative unary operand operation_from alternatives ternary_from ternary assigned assignment updated update return_rule command super_command scoped_assignment attribute_assignment call_command postfix_value value inverse logic line modifier statement separated program within some_node some_tree some_perhaps some_branch some_base some_part some_rescue some_default top_statement parsed_from parsed program_of spelled spelled_path spelled_body spelled_each spelled_paths spelled_value spelled_superclass spelled_branch spelled_base spelled_first spelled_rest spelled_clauses spelled_defaults show
 reading = tt

@@ -39,28 +39,53 @@ const LATER_KEYS: [Row; 2] = [
     ("run = 1", "wrong kind callback.run"),
 ];
 
-/// Elements that are refused, each before the next.
-const ELEMENTS: [(&str, &str, &str); 4] = [
+/// The last refusals of keys that have several.
+const LAST: [Row; 8] = [
     (
-        "root = [{path = \"..\"}, {zz = 1}]",
-        "bad path root.path",
-        "root",
+        "root = [{path = \"m\", namespace = \"a\"}]",
+        "bad constant path root.namespace",
     ),
+    ("ignore = [\"..\"]", "bad path ignore"),
+    ("collapse = [\"..\"]", "bad path collapse"),
+    ("no_eager = [\"..\"]", "bad path no_eager"),
+    ("inflect = {a = \"b\"}", "wrong kind inflect"),
+    ("gem = \"a\"", "bad path gem"),
+    ("boot = \"..\"", "bad path boot"),
     (
-        "root = [{zz = 1}, {path = \"..\"}]",
-        "unknown key root.zz",
-        "root",
-    ),
-    (
-        "callback = [{on = \"load\", run = \"1 +\"}, {on = 1}]",
+        "callback = [{on = \"load\", run = \"1 +\"}]",
         "bad Ruby callback.run",
-        "callback",
     ),
+];
+
+const ROOT: [Row; 3] = [
+    ("3", "wrong kind root"),
+    ("{zz = 1}", "unknown key root.zz"),
+    ("{path = 1}", "wrong kind root.path"),
+];
+
+/// Behind a root `m`.
+const LATER_ROOT: [Row; 5] = [
+    ("{path = 1}", "wrong kind root.path"),
+    ("{path = \"..\"}", "bad path root.path"),
+    ("{path = \"m\"}", "double root m"),
+    ("{path = \"n\", namespace = 1}", "wrong kind root.namespace"),
     (
-        "callback = [{on = 1}, {on = \"load\", run = \"1 +\"}]",
-        "wrong kind callback.on",
-        "callback",
+        "{path = \"o\", namespace = \"a\"}",
+        "bad constant path root.namespace",
     ),
+];
+
+const CALLBACK: [Row; 7] = [
+    ("3", "wrong kind callback"),
+    ("{zz = 1}", "unknown key callback.zz"),
+    ("{on = 1}", "wrong kind callback.on"),
+    ("{on = \"load\", target = 1}", "wrong kind callback.target"),
+    (
+        "{on = \"load\", target = \"a\"}",
+        "bad constant path callback.target",
+    ),
+    ("{on = \"load\", run = 1}", "wrong kind callback.run"),
+    ("{on = \"load\", run = \"1 +\"}", "bad Ruby callback.run"),
 ];
 
 fn try_pair(
@@ -98,7 +123,8 @@ fn try_rows(
 
 #[test]
 fn keys_are_tested_in_their_order(rt: HostRuntime) -> Result<(), Fail> {
-    try_rows(&rt, rt.alloc(), "", &KEYS, "\n", "\n")
+    try_rows(&rt, rt.alloc(), "", &KEYS, "\n", "\n")?;
+    try_rows(&rt, rt.alloc(), "", &LAST, "\n", "\n")
 }
 
 #[test]
@@ -116,11 +142,42 @@ fn keys_of_elements_are_tested_in_their_order(rt: HostRuntime) -> Result<(), Fai
     try_rows(&rt, rt.alloc(), front, &LATER_KEYS, ", ", "}]\n")
 }
 
+// The element that stands first in the text decides, whatever it is refused for.
+fn try_elements(rt: &impl Abort, alloc: Global, front: &str, rows: &[Row]) -> Result<(), Fail> {
+    for pair in rows.windows(2) {
+        let (first, wanted) = pair[0];
+        let (second, other) = pair[1];
+        try_pair(rt, alloc, front, first, ", ", second, "]\n", wanted)?;
+        try_pair(rt, alloc, front, second, ", ", first, "]\n", other)?;
+    }
+    Ok(())
+}
+
 #[test]
 fn elements_are_tested_in_their_order(rt: HostRuntime) -> Result<(), Fail> {
-    for (text, wanted, key) in &ELEMENTS {
-        let told = refusal(rt.alloc(), text)?;
-        assert!(&rt; told.as_str() == *wanted, "{key}: {told}");
+    try_elements(&rt, rt.alloc(), "root = [", &ROOT)?;
+    let front = "root = [{path = \"m\"}, ";
+    try_elements(&rt, rt.alloc(), front, &LATER_ROOT)?;
+    try_elements(&rt, rt.alloc(), "callback = [", &CALLBACK)?;
+    let patterns = [
+        (
+            "ignore = [",
+            ("1", "wrong kind ignore"),
+            ("\"..\"", "bad path ignore"),
+        ),
+        (
+            "collapse = [",
+            ("1", "wrong kind collapse"),
+            ("\"..\"", "bad path collapse"),
+        ),
+        (
+            "no_eager = [",
+            ("1", "wrong kind no_eager"),
+            ("\"..\"", "bad path no_eager"),
+        ),
+    ];
+    for (front, first, second) in patterns {
+        try_elements(&rt, rt.alloc(), front, &[first, second])?;
     }
     Ok(())
 }

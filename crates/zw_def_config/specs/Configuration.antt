@@ -68,8 +68,12 @@ settings path table =
 abbrev pub document : Text → Reading Members
 document bytes = ok_or (if is_utf8 bytes then parse_document bytes else None) not_toml
 
+-- of a document that is that table
+unfoldable pub configuration_in : Path → Members → Reading Configuration
+configuration_in path table = only_known [] configuration_keys table >>= settings path
+
 unfoldable pub configuration_of : Path → Text → Reading Configuration
-configuration_of path bytes = document bytes >>= only_known [] configuration_keys >>= settings path
+configuration_of path bytes = document bytes >>= configuration_in path
 
 abbrev pub or_refused : {X : Type 0} → Reading X → Result X Refusal
 or_refused (Ok x) = Ok x

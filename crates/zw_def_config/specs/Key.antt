@@ -1,5 +1,5 @@
 -- The keys of a table: those that are known, and the least one that is not.
-use Rattle.std.specs.Prelude.{Bool, not, List, [], ◌∷◌, ◌++◌, codes, filter, Option, Some, None, Ok, Err, if◌then◌else◌}
+use Rattle.std.specs.Prelude.{Bool, not, List, [], ◌∷◌, ◌++◌, codes, filter, is_some, Option, Some, None, Ok, Err, if◌then◌else◌}
 use Rattle.std.specs.Option.{option_map_or}
 use Rattle.std.specs.Ordering.{nat_cmp, is_lt}
 use Rattle.std.specs.Cmp.Lexicographic.{slice_cmp}
@@ -33,6 +33,10 @@ least (text ∷ texts) = Some (option_map_or (lesser text) (least texts) text)
 
 abbrev pub unknown_keys : List Text → Members → List Text
 unknown_keys known table = filter (λ key. not (is_among known key)) (keys_of table)
+
+-- whether the table has no other keys
+abbrev pub has_only : List Text → Members → Bool
+has_only known table = not (is_some (least (unknown_keys known table)))
 
 -- the table, unless it has a key that is not known; of these the least is told, behind the name of what the table is in
 abbrev pub only_known : Text → List Text → Members → Reading Members
