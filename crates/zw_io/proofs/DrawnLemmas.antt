@@ -1,8 +1,8 @@
 -- What is drawn from a source, step by step.
-use Rattle.std.proofs.Common.{◌≡◌, ◌≢◌, ◌+◌, ◌++◌, ℕ, [], ◌∷◌, Option, Some, None, IfSome, length, refl, sym, ap, ◌∙◌, arith}
+use Rattle.std.proofs.Common.{◌≡◌, ◌≢◌, ◌++◌, ℕ, [], ◌∷◌, Option, Some, None, IfSome, length, sym, ap, ◌∙◌, arith}
 use Rattle.std.proofs.lemmas.Option.{same_Some}
 use Rattle.zw_def.specs.Text.{Text}
-use Rattle.zw_def.specs.Told.{held_then, Draws}
+use Rattle.zw_def.specs.Told.{held_then}
 use Rattle.zw_def.specs.Line.{HasLineFeed}
 use Rattle.zw_def.proofs.LineLemmas.{line_of-other, line_size-other}
 

@@ -1,2 +1,4 @@
 pub mod LineStepLemmas
 pub mod DrawnLemmas
+pub mod WholeLineLemmas
+pub mod NextLinesLemmas

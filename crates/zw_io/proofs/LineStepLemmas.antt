@@ -56,13 +56,13 @@ told_on n (Some all) (Some rest) (Some more) into kept start room later b goes i
 -- ---- answers
 
 -- the bytes that went by are the line
-front_line : (all front rest : Text) → all ≡ front ++ rest → IsWithinLine front → line_of rest ≡ [] → line_of all ≡ front
+pub front_line : (all front rest : Text) → all ≡ front ++ rest → IsWithinLine front → line_of rest ≡ [] → line_of all ≡ front
 front_line all front rest split within none = ap line_of split ∙ line_of-front front rest within ∙ ap (λ more. front ++ more) none ∙ append-nil front
 
-front_size : (all front rest : Text) → all ≡ front ++ rest → IsWithinLine front → line_size all ≡ length front + line_size rest
+pub front_size : (all front rest : Text) → all ≡ front ++ rest → IsWithinLine front → line_size all ≡ length front + line_size rest
 front_size all front rest split within = ap line_size split ∙ line_size-front front rest within
 
-front_after : (all front rest : Text) → all ≡ front ++ rest → IsWithinLine front → after_line all ≡ after_line rest
+pub front_after : (all front rest : Text) → all ≡ front ++ rest → IsWithinLine front → after_line all ≡ after_line rest
 front_after all front rest split within = ap after_line split ∙ after_line-front front rest within
 
 short : (n : ℕ) (line into : Text) → into ≡ take (n + 1) line → length into < n + 1 → length line ≤ n

@@ -1,5 +1,6 @@
 pub mod FolderAnswers
 pub mod LineAnswers
+pub mod NextLines
 pub mod State
 pub mod Drawn
 pub mod Fakes

@@ -1,13 +1,15 @@
 // The lines of a stream.
-ghost use Rattle.std.specs.Prelude.{◌≡◌, ◌≢◌, ◌+◌, [], true, false, OnOk, OnErr, IfOk, IsOk, IfErr, IfSome, None, Err, nat_lt, if◌then◌else◌};
+ghost use Rattle.std.specs.Prelude.{◌≡◌, ◌≢◌, ◌≤◌, ◌+◌, ◌++◌, ◌∷◌, [], length, true, false, OnOk, OnErr, IfOk, IsOk, IfErr, IfSome, Some, None, Err, nat_lt, if◌then◌else◌};
 ghost use Rattle.std.specs.Result.{result_err};
-ghost use Rattle.zw_def.specs.Line.{HasLineFeed};
+ghost use Rattle.zw_def.specs.Line.{HasLineFeed, after_line, whole_lines};
 ghost use Rattle.zw_io.specs.State.{bytes_left};
 ghost use Rattle.zw_io.specs.Drawn.{DrawsFrom, IsSound, Pops};
 ghost use Rattle.zw_io.specs.LineAnswers.{Answers, MeetsEnd, Steps, StepsToEnd, Counts, Spends, kept_with};
+ghost use Rattle.zw_io.specs.NextLines.{AnswersOne, MeetsOne, SpendsOne, AnswersLines, MeetsLines};
 
 use crate::Source;
 use crate::block::Block;
+use std::alloc::AllocError;
 
 /// How many bytes may be given.
 const MOST: u32 = 1 << 30;
@@ -22,6 +24,17 @@ pub enum LinesFault {
     ReadFault,
     TooMuch,
     Memory,
+}
+
+impl From<AllocError> for LinesFault {
+    ghost use Rattle.std.specs.Prelude.{◌≡◌};
+    ghost use Rattle.zw_io.specs.declared.lines.LinesFault.TheVariants.{Memory};
+
+    ghost from_gives = { λ _ fault. fault ≡ Memory };
+
+    fn from(_error: AllocError) -> LinesFault {
+        LinesFault::Memory
+    }
 }
 
 /// What was given: a line, the front of a line that is too long, or nothing at the end of input.
@@ -62,6 +75,18 @@ impl<'a, S: Source> Lines<'a, S> {
             is_ended: false,
             refused: None,
         }
+    }
+
+    /// From now on this refusal is answered.
+    pub fn refuse(&mut self, fault: LinesFault)
+        ensures same_source { self.new.source.ghost_name ≡ self.old.source.ghost_name }
+        ensures source { self.new.source.now ≡ self.old.source.now }
+        ensures block { self.new.block ≡ self.old.block }
+        ensures room { self.new.room ≡ self.old.room }
+        ensures ended { self.new.is_ended ≡ self.old.is_ended }
+        ensures refused { self.new.refused ≡ Some fault }
+    {
+        self.refused = Some(fault);
     }
 
     // Takes more bytes, where none is held and the end of input is not met.
@@ -139,7 +164,9 @@ impl<'a, S: Source> Lines<'a, S> {
         ensures draws { DrawsFrom S.left self.old self.new }
         ensures sound { IsSound S.left self.old → IsSound S.left self.new }
         ensures unasked { HasLineFeed self.old.block → self.new.source.now ≡ self.old.source.now }
+        ensures held { OnOk result (HasLineFeed self.old.block → self.new.block ≡ after_line self.old.block) }
         ensures over { self.old.is_ended ≡ true → self.new.source.now ≡ self.old.source.now }
+        ensures stays { OnOk result (self.old.is_ended ≡ true → self.new.is_ended ≡ true) }
     {
         let start = self.room;
         'bytes: loop {
@@ -175,7 +202,9 @@ impl<'a, S: Source> Lines<'a, S> {
         // A line that stands whole in the bytes that are held is answered without a call of the source, and so is each
         // line once the end of input is met.
         ensures unasked { HasLineFeed self.old.block → self.new.source.now ≡ self.old.source.now }
+        ensures held { OnOk result (HasLineFeed self.old.block → self.new.block ≡ after_line self.old.block) }
         ensures over { self.old.is_ended ≡ true → self.new.source.now ≡ self.old.source.now }
+        ensures stays { OnOk result (self.old.is_ended ≡ true → self.new.is_ended ≡ true) }
         // Each line spends room, so that a loop over the lines ends.
         ensures room { IfOk result (λ end. Spends end self.old.room self.new.room) }
         ensures refused { self.new.refused ≡ result_err result }
@@ -186,6 +215,110 @@ impl<'a, S: Source> Lines<'a, S> {
         }
         match self.cut_line(into) {
             Ok(end) => Ok(end),
+            Err(fault) => {
+                self.refused = Some(fault);
+                Err(fault)
+            }
+        }
+    }
+
+    // Appends the next line, whole and with an LF, to what `into` holds: whether there was one.
+    fn append_line(&mut self, into: &mut Vec<u8>) -> Result<bool, LinesFault>
+        ensures same_source { self.new.source.ghost_name ≡ self.old.source.ghost_name }
+        ensures answer { IfSome (bytes_left S.left self.old) (λ bytes.
+            AnswersOne result bytes self.old.room into.old.items into.new.items
+            (bytes_left S.left self.new) self.new.room) }
+        ensures met { IfSome (bytes_left S.left self.old) (λ bytes.
+            MeetsOne result bytes self.old.is_ended self.new.is_ended) }
+        ensures drained { IfErr result (λ fault.
+            fault ≡ LinesFault.ReadFault → bytes_left S.left self.new ≡ S.left self.new.source.now) }
+        ensures cause { Counts result (S.faults self.old.source.now) (S.faults self.new.source.now) }
+        ensures room { IfOk result (λ some. SpendsOne some self.old.room self.new.room) }
+        ensures refused { self.new.refused ≡ self.old.refused }
+        ensures draws { DrawsFrom S.left self.old self.new }
+        ensures sound { IsSound S.left self.old → IsSound S.left self.new }
+        ensures unasked { HasLineFeed self.old.block → self.new.source.now ≡ self.old.source.now }
+        ensures held { OnOk result (HasLineFeed self.old.block → self.new.block ≡ after_line self.old.block) }
+        ensures over { self.old.is_ended ≡ true → self.new.source.now ≡ self.old.source.now }
+        ensures stays { OnOk result (self.old.is_ended ≡ true → self.new.is_ended ≡ true) }
+    {
+        let start = self.room;
+        'bytes: loop {
+            match self.next_byte()? {
+                None if self.room == start => return Ok(false),
+                None => {
+                    append(into, b'\n')?;
+                    return Ok(true);
+                }
+                Some(b'\n') => {
+                    append(into, b'\n')?;
+                    return Ok(true);
+                }
+                Some(byte) => append(into, byte)?,
+            }
+        }
+    }
+
+    // Appends the next n lines, or all that are left where these are fewer.
+    fn append_lines(&mut self, n: u64, into: &mut Vec<u8>) -> Result<u64, LinesFault>
+        ensures same_source { self.new.source.ghost_name ≡ self.old.source.ghost_name }
+        ensures answer { IfSome (bytes_left S.left self.old) (λ bytes.
+            AnswersLines n result bytes self.old.room into.old.items into.new.items
+            (bytes_left S.left self.new) self.new.room) }
+        ensures met { IfSome (bytes_left S.left self.old) (λ bytes.
+            MeetsLines n result bytes self.old.is_ended self.new.is_ended) }
+        ensures drained { IfErr result (λ fault.
+            fault ≡ LinesFault.ReadFault → bytes_left S.left self.new ≡ S.left self.new.source.now) }
+        ensures cause { Counts result (S.faults self.old.source.now) (S.faults self.new.source.now) }
+        ensures room { IfOk result (λ k. self.new.room + k ≤ self.old.room) }
+        ensures refused { self.new.refused ≡ self.old.refused }
+        ensures draws { DrawsFrom S.left self.old self.new }
+        ensures sound { IsSound S.left self.old → IsSound S.left self.new }
+        ensures unasked { n ≤ length (whole_lines self.old.block) → self.new.source.now ≡ self.old.source.now }
+        ensures over { self.old.is_ended ≡ true → self.new.source.now ≡ self.old.source.now }
+        ensures stays { OnOk result (self.old.is_ended ≡ true → self.new.is_ended ≡ true) }
+    {
+        let mut count = 0;
+        'lines: while count < n {
+            if !self.append_line(into)? {
+                return Ok(count);
+            }
+            count += 1;
+        }
+        Ok(n)
+    }
+
+    /// Appends the next n lines, or all that are left up to the end of input where these are fewer, to what `into`
+    /// holds: each whole, whatever its size, and with an LF. It says how many there were. A refusal is answered again
+    /// by every later call, and leaves in `into` a front of the lines.
+    pub fn next_lines(&mut self, n: u64, into: &mut Vec<u8>) -> Result<u64, LinesFault>
+        ensures same_source { self.new.source.ghost_name ≡ self.old.source.ghost_name }
+        ensures answer { self.old.refused ≡ None → IfSome (bytes_left S.left self.old) (λ bytes.
+            AnswersLines n result bytes self.old.room into.old.items into.new.items
+            (bytes_left S.left self.new) self.new.room) }
+        ensures met { self.old.refused ≡ None → IfSome (bytes_left S.left self.old) (λ bytes.
+            MeetsLines n result bytes self.old.is_ended self.new.is_ended) }
+        ensures drained { self.old.refused ≡ None → IfErr result (λ fault.
+            fault ≡ LinesFault.ReadFault → bytes_left S.left self.new ≡ S.left self.new.source.now) }
+        ensures cause { self.old.refused ≡ None →
+            Counts result (S.faults self.old.source.now) (S.faults self.new.source.now) }
+        ensures again { IfSome self.old.refused (λ fault.
+            (result ≡ Err fault) × (self.new.source.now ≡ self.old.source.now)) }
+        ensures draws { DrawsFrom S.left self.old self.new }
+        ensures sound { IsSound S.left self.old → IsSound S.left self.new }
+        // Lines that stand whole in the bytes that are held are taken without a call of the source.
+        ensures unasked { n ≤ length (whole_lines self.old.block) → self.new.source.now ≡ self.old.source.now }
+        ensures over { self.old.is_ended ≡ true → self.new.source.now ≡ self.old.source.now }
+        ensures stays { OnOk result (self.old.is_ended ≡ true → self.new.is_ended ≡ true) }
+        // Each line spends room.
+        ensures room { IfOk result (λ k. self.new.room + k ≤ self.old.room) }
+        ensures refused { self.new.refused ≡ result_err result }
+    {
+        if let Some(fault) = self.refused {
+            return Err(fault);
+        }
+        match self.append_lines(n, into) {
+            Ok(count) => Ok(count),
             Err(fault) => {
                 self.refused = Some(fault);
                 Err(fault)
@@ -214,6 +347,17 @@ fn keep(into: &mut Vec<u8>, byte: u8) -> Result<(), LinesFault>
         if into.push(byte).is_err() {
             return Err(LinesFault::Memory);
         }
+    }
+    Ok(())
+}
+
+// Appends a byte.
+fn append(into: &mut Vec<u8>, byte: u8) -> Result<(), LinesFault>
+    ensures ok { OnOk result (into.new.items ≡ into.old.items ++ byte ∷ []) }
+    ensures err { IfErr result (λ e. e ≡ LinesFault.Memory) }
+{
+    if into.push(byte).is_err() {
+        return Err(LinesFault::Memory);
     }
     Ok(())
 }

@@ -1,5 +1,6 @@
-use Rattle.std.proofs.Common.{rules, arith, ◌∙◌, subst}
-use Rattle.zw_def.specs.Line.{HasLineFeed}
+use Rattle.std.proofs.Common.{rules, arith, ◌∙◌, subst, ap, sym}
+use Rattle.zw_def.specs.Line.{HasLineFeed, after_line}
+use Rattle.zw_def.proofs.LineLemmas.{after_line-other}
 use Rattle.zw_io.proofs.LineStepLemmas.{told_err, told_last, told_line, told_on, met_line}
 use Rattle.zw_def.proofs.ToldLemmas.{draws_more}
 use Rattle.zw_io.proofs.DrawnLemmas.{feed_some, feed_rest}
@@ -56,8 +57,11 @@ bytes-preserved g c = record {
   unasked = λ feed.
       let before = c.bytes.invariant.unasked feed in
       let some = feed_some _ before.1 in
-      let pops = (rw c.in-Some.is at c.in_ok-next_byte.ensures.held) some in
-      (c.next_byte.ensures.unasked some ∙ before.0, feed_rest c.in-Some.byte c.next_byte.new.self.block c.in-Some.byte-test.1 (subst HasLineFeed pops before.1));
+      let pops = (rw c.in-Some.is at c.in_ok-next_byte.ensures.held) some in (
+        c.next_byte.ensures.unasked some ∙ before.0,
+        feed_rest c.in-Some.byte c.next_byte.new.self.block c.in-Some.byte-test.1 (subst HasLineFeed pops before.1),
+        sym (ap after_line pops ∙ after_line-other c.in-Some.byte c.next_byte.new.self.block c.in-Some.byte-test.1) ∙ before.2,
+      );
   over = λ ended. c.next_byte.ensures.over (c.bytes.invariant.met ∙ ended) ∙ c.bytes.invariant.over ended;
   told = told_on _ _ _ _ _ _ _ _ _ c.in-Some.byte c.bytes.invariant.told (rw c.in-Some.is at c.in_ok-next_byte.ensures.step).1 c.in-Some.byte-test.1 (rw c.in-Some.is at c.in_ok-next_byte.ensures.step).0 (search rules);
 }

@@ -1,7 +1,7 @@
 use Rattle.std.proofs.Common.{◌≡◌, ◌≤◌, true}
 use Rattle.zw_io.specs.State.{bytes_left}
 use Rattle.zw_io.specs.Drawn.{DrawsFrom, IsSound}
-use Rattle.zw_def.specs.Line.{HasLineFeed}
+use Rattle.zw_def.specs.Line.{HasLineFeed, after_line}
 use Rattle.zw_io.proofs.LineStepLemmas.{GoesIfTold}
 use Rattle.zw_io.proofs.lines.Lines.cut_line.Given as goal
 
@@ -16,7 +16,7 @@ invariant-bytes g l = record {
   told : GoesIfTold 1048577 (bytes_left g.S.Source.left l.fn.self) (bytes_left g.S.Source.left l.self) l.into.items l.start l.self.room;
   draws : DrawsFrom g.S.Source.left l.fn.self l.self;
   sound : IsSound g.S.Source.left l.fn.self → IsSound g.S.Source.left l.self;
-  unasked : HasLineFeed l.fn.self.block → (l.self.source.now ≡ l.fn.self.source.now) × HasLineFeed l.self.block;
+  unasked : HasLineFeed l.fn.self.block → (l.self.source.now ≡ l.fn.self.source.now) × HasLineFeed l.self.block × (after_line l.self.block ≡ after_line l.fn.self.block);
   over : l.fn.self.is_ended ≡ true → l.self.source.now ≡ l.fn.self.source.now;
 }
 
