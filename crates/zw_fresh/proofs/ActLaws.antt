@@ -9,14 +9,20 @@ use Rattle.zw_def_world.specs.Act.{Point, End, Flow, gave, raised, broken, skipp
 use Rattle.zw_def_world.proofs.EvolutionLaws.{Keeps, ends_keeps, then_keeps, go_on_keeps, in_world_keeps, reading_keeps, in_frame_keeps, framed_keeps, paid_keeps, writes_keeps}
 use Rattle.zw_def_world.proofs.EvaluationLaws.{spending_evolves}
 use Rattle.zw_fresh.specs.Renaming.{ren, ren_flow}
+use Rattle.zw_fresh.proofs.GrowingLaws.{growing}
 use Rattle.zw_fresh.specs.Alike.{Setting, When, Renamed, Found, Worlds, Frames, Points, IsOver, Short, EndsAlike, Verdict, Ends, Acts}
 
 abbrev pub Spends : Act → Type 0
 Spends m = Keeps spending_evolves m
 
--- two acts that keep points alike; the second one makes no steps
+-- no module is lost
+abbrev pub Grows : Act → Type 0
+Grows m = Keeps growing m
+
+-- two acts that keep points alike; the first one loses no module, and the second one makes no steps
 pub record Alike {calm : Bool} (S : Setting calm) (old : Text → Bool) (m m' : Act) : Type 0 where
   pub acts : Acts calm S old m m'
+  pub grows : Grows m
   pub spends : Spends m'
 
 -- ---- verdicts
@@ -66,10 +72,11 @@ short_on n k e c l (inr s) = let m = (l e.flow).kept e.at in inr (omega (arith, 
 
 pub ends_at : (calm : Bool) (S : Setting calm) (old : Text → Bool) (f : Flow) (p p' : Point) → Points calm S old p p'
     → Ends calm S old (ends f p) (ends (ren_flow S.lift f) p')
-ends_at calm S old f p p' P = at f (record { flow = refl; at = P })
+ends_at calm S old f p p' P = λ inside. at f (record { flow = refl; at = P })
   where
     at : (f : Flow) → EndsAlike calm S old (ends f p) (ends (ren_flow S.lift f) p')
-        → Ends calm S old (ends f p) (ends (ren_flow S.lift f) p')
+        → Verdict calm f (Short S.total (ends (ren_flow S.lift f) p'))
+        (EndsAlike calm S old (ends f p) (ends (ren_flow S.lift f) p'))
     at (gave v) A = A
     at (raised i) A = A
     at broken A = A
@@ -97,14 +104,14 @@ verdict_on calm S old k k' b c l (raised i) q e' h = alike_on calm S old k k' b 
 verdict_on calm S old k k' b c l broken q e' h = alike_on calm S old k k' b broken q e' h
 verdict_on calm S old k k' b c l skipped q e' h = alike_on calm S old k k' b skipped q e' h
 verdict_on calm S old k k' b c l (returned v) q e' h = alike_on calm S old k k' b (returned v) q e' h
-verdict_on true S old k k' b c l out_of_steps q e' h =
+verdict_on true S old k k' b c l out_of_steps q e' h = λ inside.
     subst (λ g. Verdict true g (Short S.total (k' e'.flow e'.at))
     (EndsAlike true S old (k out_of_steps q) (k' e'.flow e'.at))) (sym (c.0.same out_of_steps q tt))
     (short_on S.total k' e' c.1 l h)
-verdict_on true S old k k' b c l too_deep q e' h =
+verdict_on true S old k k' b c l too_deep q e' h = λ inside.
     subst (λ g. Verdict true g (Short S.total (k' e'.flow e'.at))
     (EndsAlike true S old (k too_deep q) (k' e'.flow e'.at))) (sym (c.0.same too_deep q tt)) tt
-verdict_on true S old k k' b c l lost q e' h =
+verdict_on true S old k k' b c l lost q e' h = λ inside.
     subst (λ g. Verdict true g (Short S.total (k' e'.flow e'.at))
     (EndsAlike true S old (k lost q) (k' e'.flow e'.at))) (sym (c.0.same lost q tt)) tt
 verdict_on false S old k k' b c l out_of_steps q e' h = alike_on false S old k k' b out_of_steps q e' h
@@ -113,7 +120,7 @@ verdict_on false S old k k' b c l lost q e' h = alike_on false S old k k' b lost
 
 module _ {calm : Bool} {S : Setting calm} {old : Text → Bool} where
   pub ends_alike : (f : Flow) → Alike S old (ends f) (ends (ren_flow S.lift f))
-  ends_alike f = record { acts = ends_at calm S old f; spends = ends_keeps _ }
+  ends_alike f = record { acts = ends_at calm S old f; grows = ends_keeps f; spends = ends_keeps _ }
 
   pub gives_alike : (v : Value) → Alike S old (gives v) (gives (ren S.lift v))
   gives_alike v = ends_alike (gave v)
@@ -125,7 +132,9 @@ module _ {calm : Bool} {S : Setting calm} {old : Text → Bool} where
       → ((f : Flow) → Alike S old (k f) (k' (ren_flow S.lift f))) → ((f : Flow) → Spends (k' f))
       → Alike S old (m >>> k) (m' >>> k')
   then_alike {m} {m'} {k} {k'} c a b l = record {
-    acts = λ p p' P. verdict_on calm S old k k' (λ f. (b f).acts) c l (m p).flow (m p).at (m' p') (a.acts p p' P);
+    acts = λ p p' P inside. verdict_on calm S old k k' (λ f. (b f).acts) c l (m p).flow (m p).at (m' p')
+        (a.acts p p' P (S.within_before _ _ ((b (m p).flow).grows.kept (m p).at) inside)) inside;
+    grows = then_keeps a.grows (λ f. (b f).grows);
     spends = then_keeps a.spends l;
   }
 
@@ -172,7 +181,7 @@ module _ {calm : Bool} {S : Setting calm} {old : Text → Bool} where
     where
       at : (c : Bool) (T : Setting c) → Renamed c g None o' → Points c T old p p'
           → Ends c T old (ends lost p) (read o' k' p')
-      at true T e Q = tt
+      at true T e Q = λ inside. tt
       at false T e Q = subst (λ z. Ends false T old (ends lost p) (read z k' p')) (sym e) (ends_at false T old lost p p' Q)
 
   pub reading_alike : {X Y : Type 0} {g : X → Y} {f : World → Option X} {f' : World → Option Y} {k : X → Act} {k' : Y → Act}
@@ -180,6 +189,7 @@ module _ {calm : Bool} {S : Setting calm} {old : Text → Bool} where
       → ((y : Y) → Spends (k' y)) → Alike S old (reading f k) (reading f' k')
   reading_alike {X} {Y} {g} {f} {f'} {k} {k'} h b l = record {
     acts = λ p p' P. read_alike g (f p.world) (f' p'.world) (h p.world p'.world P.world).so b l p p' P;
+    grows = reading_keeps f (λ x. (b x).grows);
     spends = reading_keeps f' l;
   }
 
@@ -189,6 +199,7 @@ module _ {calm : Bool} {S : Setting calm} {old : Text → Bool} where
   in_world_alike g {f} {f'} {k} {k'} h b l = record {
     acts = λ p p' P. subst (λ z. Ends calm S old (k (f p.world) p) (k' z p')) (sym (h p.world p'.world P.world))
         ((b (f p.world)).acts p p' P);
+    grows = in_world_keeps f (λ x. (b x).grows);
     spends = in_world_keeps f' l;
   }
 
@@ -198,6 +209,7 @@ module _ {calm : Bool} {S : Setting calm} {old : Text → Bool} where
   in_frame_alike g {f} {f'} {k} {k'} h b l = record {
     acts = λ p p' P. subst (λ z. Ends calm S old (k (f p.frame) p) (k' z p')) (sym (h p.frame p'.frame P.frame))
         ((b (f p.frame)).acts p p' P);
+    grows = in_frame_keeps f (λ x. (b x).grows);
     spends = in_frame_keeps f' l;
   }
 
@@ -205,12 +217,12 @@ module _ {calm : Bool} {S : Setting calm} {old : Text → Bool} where
 
   pub framed_alike : {new : Text → Bool} {a b : Frame} {m m' : Act} → Frames S.lift new a b → Alike S new m m'
       → Alike S old (framed a m) (framed b m')
-  framed_alike {new} {a} {b} {m} {m'} F h = record { acts = at; spends = framed_keeps b h.spends }
+  framed_alike {new} {a} {b} {m} {m'} F h = record { acts = at; grows = framed_keeps a h.grows; spends = framed_keeps b h.spends }
     where
       at : Acts calm S old (framed a m) (framed b m')
-      at p p' P = verdict_map calm (m (record p { frame = a })).flow (λ z. z) back
+      at p p' P = λ inside. verdict_map calm (m (record p { frame = a })).flow (λ z. z) back
           (h.acts (record p { frame = a }) (record p' { frame = b })
-          (record { world = P.world; frame = F; left = P.left; out = P.out }))
+          (record { world = P.world; frame = F; left = P.left; out = P.out }) inside)
         where
           back : EndsAlike calm S new (m (record p { frame = a })) (m' (record p' { frame = b }))
               → EndsAlike calm S old (framed a m p) (framed b m' p')
@@ -220,7 +232,7 @@ module _ {calm : Bool} {S : Setting calm} {old : Text → Bool} where
           }
 
   pub writes_alike : (line : Text) → Alike S old (writes line) (writes line)
-  writes_alike line = record { acts = at; spends = writes_keeps line }
+  writes_alike line = record { acts = at; grows = writes_keeps line; spends = writes_keeps line }
     where
       all_of : (a o : Text) → a ++ o ++ line ++ codes "\n" ≡ a ++ (o ++ line ++ codes "\n")
       all_of a o = ap (λ t. t ++ codes "\n") (append_assoc a o line) ∙ append_assoc a (o ++ line) (codes "\n")
@@ -240,7 +252,7 @@ module _ {calm : Bool} {S : Setting calm} {old : Text → Bool} where
   -- ---- steps
 
   pub paid_alike : (n : ℕ) {m m' : Act} → Alike S old m m' → Alike S old (paid n m) (paid n m')
-  paid_alike n {m} {m'} h = record { acts = paid_acts; spends = paid_keeps n h.spends }
+  paid_alike n {m} {m'} h = record { acts = paid_acts; grows = paid_keeps n h.grows; spends = paid_keeps n h.spends }
     where
       paid_acts : Acts calm S old (paid n m) (paid n m')
       paid_acts p p' P =
@@ -253,13 +265,13 @@ module _ {calm : Bool} {S : Setting calm} {old : Text → Bool} where
               → (b b' : Bool) → nat_lt p.left n ≡ b → nat_lt p'.left n ≡ b'
               → Ends c T old ((if b then ends out_of_steps else spending n m) p)
               ((if b' then ends out_of_steps else spending n m') p')
-          at true T P h true true e e' = inl tt
+          at true T P h true true e e' = λ inside. inl tt
           at true T P g true false e e' =
               let lt = ltb-true p.left n e in
               let le = ltb-false p'.left n e' in
               let o = P.left in
               let d = h.spends.kept (record p' { left = p'.left - n }) in
-              inr (omega (arith, lt, le, o, d))
+              λ inside. inr (omega (arith, lt, le, o, d))
           at false T P h true true e e' = ends_at false T old out_of_steps p p' P
           at false T P h true false e e' =
               let lt = ltb-true p.left n e in

@@ -24,8 +24,6 @@ use Rattle.zw_fresh.specs.Reached.{opened_again}
 use Rattle.zw_fresh.specs.Places.{place_after, first_place}
 use Rattle.zw_fresh.specs.Again.{SameBoot, ReloadIsOpening}
 use Rattle.zw_fresh.proofs.PlaceLaws.{served_is_fresh}
-use Rattle.zw_fresh.proofs.HeldLaws.{tables_told}
-use Rattle.zw_fresh.proofs.BootHeldLaws.{boot_tables}
 
 -- ---- openings over another tree
 
@@ -115,9 +113,8 @@ is_again words c folder folder' opening again e e' same tree mounts =
     (λ k. record opening { staged = sym mounts k; out = ap (λ t. t.out) is k }) ∙ sym is
 
 pub reload_is_opening : ReloadIsOpening
-reload_is_opening words c folder folder' opening again e e' same may_reload bytes n commands mounts holds h =
+reload_is_opening words c folder folder' opening again e e' same may_reload bytes n commands mounts h =
     let s = (place_after n (first_place opening bytes)).session in
     subst (λ z. WritesAlike again.out ((unloaded s).out ++ codes "reloaded" ++ codes "\n") (answered commands (sets_up z))
     (answered (reload ∷ commands) s)) (is_again words c folder folder' opening again e e' same s.staged mounts)
-    (served_is_fresh words c folder opening e may_reload bytes n commands again.out
-    (tables_told opening.image (boot_tables words c folder opening e holds) s.staged) h)
+    (served_is_fresh words c folder opening e may_reload bytes n commands again.out h)

@@ -11,12 +11,12 @@ use Rattle.zw_def_world.specs.Ancestor.{is_among, listed_with, above_of, ancesto
 use Rattle.zw_def_world.specs.MethodLine.{superclasses_by, superclasses_within, superclasses}
 use Rattle.zw_fresh.specs.Renaming.{lifted, lifted_all, ren}
 use Rattle.zw_fresh.specs.Alike.{Setting, Found, Worlds}
-use Rattle.zw_fresh.proofs.FoundLaws.{some_found, none_found, found_bind, found_map, joined_found, id_same, boot_stays, module_bind, module_map, object_map}
+use Rattle.zw_fresh.proofs.FoundLaws.{some_found, none_found, found_bind, found_map, joined_found, module_bind, module_map, object_map}
 
 module _ {calm : Bool} (S : Setting calm) where
   pub among_lifted : (is : List Id) (i : Id) → is_among (lifted_all S.lift is) (lifted S.lift i) ≡ is_among is i
   among_lifted [] i = refl
-  among_lifted (j ∷ js) i = λ k. id_same S i j k || among_lifted js i k
+  among_lifted (j ∷ js) i = λ k. S.apart i j k || among_lifted js i k
 
   listed_lifted : (above listed is : List Id)
       → listed_with (lifted_all S.lift above) (lifted_all S.lift listed) (lifted_all S.lift is)
@@ -43,8 +43,8 @@ module _ {calm : Bool} (S : Setting calm) where
   above_found up up' h (Some i) = h i
 
   class_of_module_same : (b : Bool) → (if b then Class else Module_class) ≡ lifted S.lift (if b then Class else Module_class)
-  class_of_module_same true = sym (boot_stays S 3)
-  class_of_module_same false = sym (boot_stays S 2)
+  class_of_module_same true = sym (S.core_stays 3 refl)
+  class_of_module_same false = sym (S.core_stays 2 refl)
 
 module _ {calm : Bool} {S : Setting calm} {w w' : World} (W : Worlds calm S w w') where
   within_found : (n : ℕ) (i : Id)
@@ -79,17 +79,17 @@ module _ {calm : Bool} {S : Setting calm} {w w' : World} (W : Worlds calm S w w'
   -- ---- classes of values
 
   pub class_of_found : (v : Value) → Found calm (lifted S.lift) (class_of w v) (class_of w' (ren S.lift v))
-  class_of_found nil = some_found _ (ap Some (sym (boot_stays S 4)))
-  class_of_found (truth true) = some_found _ (ap Some (sym (boot_stays S 5)))
-  class_of_found (truth false) = some_found _ (ap Some (sym (boot_stays S 6)))
-  class_of_found (int z) = some_found _ (ap Some (sym (boot_stays S 7)))
-  class_of_found (text t) = some_found _ (ap Some (sym (boot_stays S 8)))
-  class_of_found (symbol t) = some_found _ (ap Some (sym (boot_stays S 9)))
-  class_of_found (array vs) = some_found _ (ap Some (sym (boot_stays S 10)))
+  class_of_found nil = some_found _ (ap Some (sym (S.core_stays 4 refl)))
+  class_of_found (truth true) = some_found _ (ap Some (sym (S.core_stays 5 refl)))
+  class_of_found (truth false) = some_found _ (ap Some (sym (S.core_stays 6 refl)))
+  class_of_found (int z) = some_found _ (ap Some (sym (S.core_stays 7 refl)))
+  class_of_found (text t) = some_found _ (ap Some (sym (S.core_stays 8 refl)))
+  class_of_found (symbol t) = some_found _ (ap Some (sym (S.core_stays 9 refl)))
+  class_of_found (array vs) = some_found _ (ap Some (sym (S.core_stays 10 refl)))
   class_of_found (module_at i) = module_map W _ _ i (λ m c. class_of_module_same S m.is_class)
   class_of_found (object_at i) = object_map W _ _ i (λ o. refl)
 
   pub makes_exceptions_found : (i : Id)
       → Found calm (λ b. b) (makes_exceptions w i) (makes_exceptions w' (lifted S.lift i))
   makes_exceptions_found i = found_map _ _ (ancestors_found i)
-      (λ line. ap (is_among (lifted_all S.lift line)) (sym (boot_stays S 11)) ∙ among_lifted S line Exception)
+      (λ line. ap (is_among (lifted_all S.lift line)) (sym (S.core_stays 11 refl)) ∙ among_lifted S line Exception)

@@ -17,7 +17,7 @@ use Rattle.zw_def_world.specs.Act.{Act, gives, reading}
 use Rattle.zw_def_world.proofs.EvolutionLaws.{if_keeps, gives_keeps}
 use Rattle.zw_def_world.proofs.FaultLaws.{makes_text_keeps}
 use Rattle.zw_def_world.proofs.TextLaws.{without_items_keeps, uniques_keeps, index_from_keeps}
-use Rattle.zw_fresh.specs.Renaming.{ren}
+use Rattle.zw_fresh.specs.Renaming.{Names, ren}
 use Rattle.zw_fresh.specs.Alike.{Setting, Found, Worlds}
 use Rattle.zw_fresh.proofs.ActLaws.{Alike, gives_alike, on_alike, if_same_alike, reading_alike, paid_alike}
 use Rattle.zw_fresh.proofs.FoundLaws.{some_found, found_bind, found_map}
@@ -28,12 +28,12 @@ use Rattle.zw_fresh.proofs.SiteLaws.{yes_or_no_alike, same_alike, among_alike}
 
 -- ---- lists of values
 
-item_same : (f : ℕ → ℕ) (vs : List Value) (n : ℕ) → get_or (ren_list f vs) n nil ≡ ren f (get_or vs n nil)
+item_same : (f : Names) (vs : List Value) (n : ℕ) → get_or (ren_list f vs) n nil ≡ ren f (get_or vs n nil)
 item_same f [] n = refl
 item_same f (v ∷ vs) zero = refl
 item_same f (v ∷ vs) (suc n) = item_same f vs n
 
-item_at_same : (f : ℕ → ℕ) (z : ℤ) (vs : List Value) → item_at z (ren_list f vs) ≡ ren f (item_at z vs)
+item_at_same : (f : Names) (z : ℤ) (vs : List Value) → item_at z (ren_list f vs) ≡ ren f (item_at z vs)
 item_at_same f (pos n) vs = item_same f vs n
 item_at_same f (negsuc n) vs =
     (λ k. if nat_lt n (length-map vs (ren f) k) then get_or (ren_list f vs) (length-map vs (ren f) k - suc n) nil else nil)
@@ -45,15 +45,15 @@ item_at_same f (negsuc n) vs =
     one true e = e
     one false e = refl
 
-last_same : (f : ℕ → ℕ) (v : Value) (vs : List Value) → last_value (ren f v) (ren_list f vs) ≡ ren f (last_value v vs)
+last_same : (f : Names) (v : Value) (vs : List Value) → last_value (ren f v) (ren_list f vs) ≡ ren f (last_value v vs)
 last_same f v [] = refl
 last_same f v (u ∷ us) = last_same f u us
 
-sum_same : (f : ℕ → ℕ) (z : ℤ) (vs : List Value) → sum_of z (ren_list f vs) ≡ sum_of z vs
+sum_same : (f : Names) (z : ℤ) (vs : List Value) → sum_of z (ren_list f vs) ≡ sum_of z vs
 sum_same f z [] = refl
 sum_same f z (v ∷ vs) = ap (λ y. sum_of (z +ℤ y) (ren_list f vs)) (integer_same f v) ∙ sum_same f (z +ℤ integer_in v) vs
 
-is_value_same : (f : ℕ → ℕ) (v : Value) → is_some_value (ren f v) ≡ is_some_value v
+is_value_same : (f : Names) (v : Value) → is_some_value (ren f v) ≡ is_some_value v
 is_value_same f nil = refl
 is_value_same f (truth b) = refl
 is_value_same f (int z) = refl
@@ -63,7 +63,7 @@ is_value_same f (array vs) = refl
 is_value_same f (module_at i) = refl
 is_value_same f (object_at i) = refl
 
-compact_same : (f : ℕ → ℕ) (vs : List Value) → filter is_some_value (ren_list f vs) ≡ ren_list f (filter is_some_value vs)
+compact_same : (f : Names) (vs : List Value) → filter is_some_value (ren_list f vs) ≡ ren_list f (filter is_some_value vs)
 compact_same f [] = refl
 compact_same f (v ∷ vs) =
     (λ k. if is_value_same f v k then ren f v ∷ compact_same f vs k else compact_same f vs k) ∙ one (is_some_value v)
@@ -73,7 +73,7 @@ compact_same f (v ∷ vs) =
     one true = refl
     one false = refl
 
-kept_same : (f : ℕ → ℕ) (v : Value) (kept : List Value) (found : Value)
+kept_same : (f : Names) (v : Value) (kept : List Value) (found : Value)
     → kept_unless (ren f v) (ren_list f kept) (ren f found) ≡ ren_list f (kept_unless v kept found)
 kept_same f v kept found =
     (λ k. if truth_same f found k then ren_list f kept else sym (map-append (ren f) kept (v ∷ [])) k) ∙ one (is_true found)
@@ -143,7 +143,7 @@ module _ {calm : Bool} {S : Setting calm} {old : Text → Bool} where
   counted_alike : {k k' : ℕ → Act} → ((n : ℕ) → Alike S old (k n) (k' n)) → (z : ℤ)
       → Alike S old (counted k z) (counted k' z)
   counted_alike b (pos n) = b n
-  counted_alike b (negsuc n) = fails_alike 17 (codes "argument must be non-negative")
+  counted_alike b (negsuc n) = fails_alike 17 refl (codes "argument must be non-negative")
 
   -- where an argument's number is read
   by_number : (F F' : ℤ → Act) → ((z : ℤ) → Alike S old (F z) (F' z)) → (v : Value)

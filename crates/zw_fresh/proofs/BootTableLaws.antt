@@ -1,5 +1,5 @@
 -- What boot defines, in two worlds whose modules are alike.
-use Rattle.std.specs.Prelude.{◌≡◌, ℕ, Bool, true, false, List, [], ◌∷◌, is_some, Option, Some, None, if◌then◌else◌}
+use Rattle.std.specs.Prelude.{◌≡◌, Bool, true, false, List, [], ◌∷◌, is_some, Option, Some, None, if◌then◌else◌}
 use Rattle.std.specs.Option.{option_map, unwrap_or}
 use Rattle.std.proofs.Common.{refl, sym, ap, ◌∙◌, subst}
 use Rattle.zw_def.specs.Text.{Text}
@@ -14,20 +14,20 @@ use Rattle.zw_def_world.specs.Table.{at}
 use Rattle.zw_def_world.specs.World.{World}
 use Rattle.zw_def_world.specs.BootTable.{Constant, absent, named_module, other_value, if_named, constant_from, constant_of, from_module, leads_from, boot_module, standing_as, standing_from, standing_of, boot_of}
 use Rattle.zw_def_world.specs.Setup.{is_told, leading}
-use Rattle.zw_fresh.specs.Renaming.{lifted, ren, ren_module}
+use Rattle.zw_fresh.specs.Renaming.{Names, lifted, ren, ren_module}
 use Rattle.zw_fresh.specs.Alike.{Setting, Found, Met}
 use Rattle.zw_fresh.proofs.TableLemmas.{at-made}
-use Rattle.zw_fresh.proofs.FoundLaws.{some_found, found_bind, found_map, met_bind, met_map, boot_stays}
+use Rattle.zw_fresh.proofs.FoundLaws.{some_found, found_bind, found_map, met_bind, met_map}
 use Rattle.zw_fresh.proofs.TextLaws.{as_it_is}
 use Rattle.zw_fresh.proofs.MethodLaws.{as_module_same}
 use Rattle.zw_fresh.proofs.SessionLaws.{found_same}
 
-abbrev ren_constant : (ℕ → ℕ) → Constant → Constant
+abbrev ren_constant : Names → Constant → Constant
 ren_constant f absent = absent
 ren_constant f (named_module i) = named_module (lifted f i)
 ren_constant f other_value = other_value
 
-named_same : (f : ℕ → ℕ) (i : Id) (b : Bool)
+named_same : (f : Names) (i : Id) (b : Bool)
     → (if b then named_module (lifted f i) else other_value) ≡ ren_constant f (if b then named_module i else other_value)
 named_same f i true = refl
 named_same f i false = refl
@@ -92,7 +92,7 @@ module _ (S : Setting false) (w w' : World) (W : ModulesMeet S w w') where
       (behind_found as_it_is undefined refl (standing_from w (o ∷ p)) (standing_from w' (o ∷ p)) (standing_found (o ∷ p)))
 
   pub standing_of_found : (p : ConstantPath) → Found false as_it_is (standing_of w p) (standing_of w' p)
-  standing_of_found p = subst (λ i. Found false as_it_is (standing_of w p) (standing_from w' p i)) (boot_stays S 0)
+  standing_of_found p = subst (λ i. Found false as_it_is (standing_of w p) (standing_from w' p i)) (S.core_stays 0 refl)
       (standing_found p Object_class)
 
   pub boot_of_same : boot_of w' ≡ boot_of w
@@ -106,7 +106,7 @@ module _ (S : Setting false) (w w' : World) (W : ModulesMeet S w w') where
   pub boot_module_found : (p : ConstantPath)
       → Found false (option_map (lifted S.lift)) (boot_module w p) (boot_module w' p)
   boot_module_found p = subst (λ i. Found false (option_map (lifted S.lift)) (boot_module w p) (leads_from w' p i))
-      (boot_stays S 0) (leads_found p Object_class)
+      (S.core_stays 0 refl) (leads_found p Object_class)
 
   pub leading_found : (ps : List ConstantPath) → Found false as_it_is (leading w ps) (leading w' ps)
   leading_found [] = some_found [] refl

@@ -19,14 +19,14 @@ use Rattle.zw_def_world.specs.Primitives.{row_act}
 use Rattle.zw_def_world.specs.Load.{scoped}
 use Rattle.zw_def_world.specs.Call.{running_at, binds, left_method, runs_code, runs_if_number, or_nil, sets_in_holder, sets_variable, reads, writes_to, runs_body, runs_found, calls_any, site_with, calls_none, row_calls, row_calls_new, Written, is_bare, finds_private, node_site, Absent, dispatched, calls, runs_next, calls_super}
 use Rattle.zw_def_world.specs.Act.{Act, Flow, gave, raised, broken, skipped, returned, out_of_steps, too_deep, lost, statements, last_of}
-use Rattle.zw_def_world.proofs.EvolutionLaws.{Keeps, last_keeps}
+use Rattle.zw_def_world.proofs.EvolutionLaws.{last_keeps}
 use Rattle.zw_def_world.proofs.EvaluationLaws.{spending_evolves}
 use Rattle.zw_def_world.proofs.RowLaws.{SiteKeeps}
 use Rattle.zw_def_world.proofs.CallLaws.{sets_local_keeps, left_method_keeps, or_nil_keeps, runs_found_keeps, site_keeps, row_calls_keeps, row_calls_new_keeps, calls_none_keeps, dispatched_keeps, runs_next_keeps}
 use Rattle.zw_fresh.specs.Renaming.{lifted, ren, ren_flow, ren_body, ren_object, ren_code, ren_found, ren_running}
 use Rattle.zw_fresh.specs.Alike.{Setting, module_with}
 use Rattle.zw_fresh.specs.Naming.{NamesNone, AllNameNone, no_old}
-use Rattle.zw_fresh.proofs.ActLaws.{Spends, Alike, ends_alike, gives_alike, both_alike, on_alike, then_alike, if_alike, if_same_alike, reading_alike, framed_alike}
+use Rattle.zw_fresh.proofs.ActLaws.{Grows, Spends, Alike, ends_alike, gives_alike, both_alike, on_alike, then_alike, if_alike, if_same_alike, reading_alike, framed_alike}
 use Rattle.zw_fresh.proofs.TableLemmas.{assigned-made, at-made}
 use Rattle.zw_fresh.proofs.TextLaws.{variables_found}
 use Rattle.zw_fresh.proofs.MethodLaws.{method_found, next_found, running_same}
@@ -39,7 +39,8 @@ use Rattle.zw_fresh.proofs.NamingLaws.{free, all_free}
 -- `go` keeps points alike on each program that names no older variable
 pub record Evaluates (S : Setting false) (go : Tree → Act) : Type 0 where
   pub alike : (old : Text → Bool) (t : Tree) → NamesNone old t → Alike S old (go t) (go t)
-  pub spends : (t : Tree) → Keeps spending_evolves (go t)
+  pub grows : (t : Tree) → Grows (go t)
+  pub spends : (t : Tree) → Spends (go t)
 
 -- what a row needs of its call
 pub record SiteAlike (S : Setting false) (old : Text → Bool) (s : Site) : Type 0 where

@@ -99,6 +99,7 @@ module _ {S : Setting false} {old : Text → Bool} where
   staged_same : (tree tree' : Tree) → tree' ≡ tree → (s s' : Session) → Sessions S old s s'
       → Sessions S old (record s { staged = tree }) (record s' { staged = tree' })
   staged_same tree tree' e s s' P = record {
+    plain = P.plain;
     world = P.world;
     variables = P.variables;
     staged = e;

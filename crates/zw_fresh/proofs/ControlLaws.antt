@@ -1,7 +1,7 @@
 -- Calls, texts, jumps and `begin`, where no key is stated.
 use Rattle.std.specs.Prelude.{Bool, false, IsFalse, List, [], ◌∷◌, ◌++◌, codes, Option, Some, None, if◌then◌else◌}
 use Rattle.std.specs.Option.{option_map}
-use Rattle.std.proofs.Common.{sym, ◌∙◌, subst}
+use Rattle.std.proofs.Common.{refl, sym, ◌∙◌, subst}
 use Rattle.zw_def.specs.Text.{Text}
 use Rattle.zw_def_syntax.specs.Tree.{Tree, Trees, Perhaps, Branch, Parts, Rescues, no_trees, tree_then, absent, present, no_branch, branch, no_parts, text_then, program_then, no_rescues, rescue_then}
 use Rattle.zw_def_world.specs.Table.{at}
@@ -18,11 +18,10 @@ use Rattle.zw_def_world.proofs.FaultLaws.{no_method_keeps, no_variable_keeps}
 use Rattle.zw_def_world.proofs.RowLaws.{with_text_keeps}
 use Rattle.zw_def_world.proofs.CallLaws.{calls_keeps, calls_super_keeps, row_calls_keeps}
 use Rattle.zw_def_world.proofs.NodeLaws.{ident_found_keeps, calls_next_keeps, joins_keeps, matches_keeps, either_keeps}
-use Rattle.zw_fresh.specs.Renaming.{lifted, ren, ren_flow}
+use Rattle.zw_fresh.specs.Renaming.{lifted, lifted_object, ren, ren_flow}
 use Rattle.zw_fresh.specs.Alike.{Setting}
 use Rattle.zw_fresh.specs.Naming.{NamesNone, AllNameNone, PerhapsNamesNone, BranchNamesNone, PartsNameNone, RescuesNameNone}
 use Rattle.zw_fresh.proofs.ActLaws.{Spends, Alike, ends_alike, gives_alike, both_alike, on_alike, if_alike, if_same_alike, in_frame_alike, reading_alike}
-use Rattle.zw_fresh.proofs.FoundLaws.{boot_stays}
 use Rattle.zw_fresh.proofs.MethodLaws.{is_kind_found}
 use Rattle.zw_fresh.proofs.FaultLaws.{ren_list, fails_alike, makes_text_alike, no_method_alike, no_variable_alike}
 use Rattle.zw_fresh.proofs.SiteLaws.{with_text_alike}
@@ -99,6 +98,7 @@ module _ {S : Setting false} {go : Tree → Act} (E : Evaluates S go) {old : Tex
         (sym F.self_value)
         (subst (λ r. Alike S old (calls_super go a.self_value vs a.running) (calls_super go (ren S.lift a.self_value) (ren_list S.lift vs) r))
         (sym F.running) (calls_super_alike E rows (scoped_alike E) a.self_value vs a.running)))
+        (λ a. calls_super_keeps E.grows a.self_value vs a.running)
         (λ b. calls_super_keeps E.spends b.self_value (ren_list S.lift vs) b.running)
 
     pub next_with_parameters_alike : Alike S old (next_with_parameters go) (next_with_parameters go)
@@ -107,19 +107,19 @@ module _ {S : Setting false} {go : Tree → Act} (E : Evaluates S go) {old : Tex
 
   -- ---- begin
 
-  named_alike : (x : Option Text) (i : Id) → Alike S old (named_act x i) (named_act x (lifted S.lift i))
+  named_alike : (x : Option Text) (i : Id) → Alike S old (named_act x i) (named_act x (lifted_object S.lift i))
   named_alike None i = gives_alike nil
   named_alike (Some x) i = sets_local_alike x (object_at i)
 
   rescue_fault_alike : Alike S old rescue_fault rescue_fault
-  rescue_fault_alike = fails_alike 22 (codes "class or module required for rescue clause")
+  rescue_fault_alike = fails_alike 22 refl (codes "class or module required for rescue clause")
 
   module _ (i : Id) (k k' : Bool → Act) (b : (t : Bool) → Alike S old (k t) (k' t)) where
     kind_alike : (class : Id) → Alike S old (matches_module i k (Some class))
-        (matches_module (lifted S.lift i) k' (Some (lifted S.lift class)))
+        (matches_module (lifted_object S.lift i) k' (Some (lifted S.lift class)))
     kind_alike class = reading_alike (λ w w' W. is_kind_found W (object_at i) class) b (λ t. (b t).spends)
 
-    matches_alike : (v : Value) → Alike S old (matches i k v) (matches (lifted S.lift i) k' (ren S.lift v))
+    matches_alike : (v : Value) → Alike S old (matches i k v) (matches (lifted_object S.lift i) k' (ren S.lift v))
     matches_alike nil = rescue_fault_alike
     matches_alike (truth bit) = rescue_fault_alike
     matches_alike (int z) = rescue_fault_alike
@@ -134,22 +134,22 @@ module _ {S : Setting false} {go : Tree → Act} (E : Evaluates S go) {old : Tex
   either_alike a b t = if_alike t a b
 
   matches_one_alike : (i : Id) {m m' n n' : Act} → Alike S old m m' → Alike S old n n' → (ts : Trees) → AllNameNone old ts
-      → Alike S old (matches_one go i m n ts) (matches_one go (lifted S.lift i) m' n' ts)
+      → Alike S old (matches_one go i m n ts) (matches_one go (lifted_object S.lift i) m' n' ts)
   matches_one_alike i a b no_trees h = b
   matches_one_alike i {m} {m'} {n} {n'} a b (tree_then t ts) h =
       let later = matches_one_alike i a b ts h.1 in
       on_alike (E.alike old t h.0) (matches_alike i _ _ (either_alike a later))
-      (matches_keeps (lifted S.lift i) (either_keeps a.spends later.spends))
+      (matches_keeps (lifted_object S.lift i) (either_keeps a.spends later.spends))
 
   is_rescued_alike : (i : Id) {m m' n n' : Act} → Alike S old m m' → Alike S old n n' → (ts : Trees) → AllNameNone old ts
-      → Alike S old (is_rescued go i m n ts) (is_rescued go (lifted S.lift i) m' n' ts)
+      → Alike S old (is_rescued go i m n ts) (is_rescued go (lifted_object S.lift i) m' n' ts)
   is_rescued_alike i {m} {m'} {n} {n'} a b no_trees h =
-      subst (λ c. Alike S old (is_rescued go i m n no_trees) (matches_module (lifted S.lift i) (either m' n') (Some c)))
-      (boot_stays S 14) (kind_alike i (either m n) (either m' n') (either_alike a b) StandardError)
+      subst (λ c. Alike S old (is_rescued go i m n no_trees) (matches_module (lifted_object S.lift i) (either m' n') (Some c)))
+      (S.core_stays 14 refl) (kind_alike i (either m n) (either m' n') (either_alike a b) StandardError)
   is_rescued_alike i a b (tree_then t ts) h = matches_one_alike i a b (tree_then t ts) h
 
   rescues_alike : (i : Id) (r : Rescues) → RescuesNameNone old r
-      → Alike S old (rescues go i r) (rescues go (lifted S.lift i) r)
+      → Alike S old (rescues go i r) (rescues go (lifted_object S.lift i) r)
   rescues_alike i no_rescues h = ends_alike (raised i)
   rescues_alike i (rescue_then paths variable body clauses) h =
       is_rescued_alike i (both_alike (named_alike variable i) (statements_alike E old body h.2)) (rescues_alike i clauses h.3) paths h.0

@@ -23,9 +23,9 @@ use Rattle.zw_def_world.proofs.DefinitionLaws.{opens_home_keeps, defines_in_keep
 use Rattle.zw_fresh.specs.Renaming.{lifted, lifted_all, ren, ren_method, ren_module}
 use Rattle.zw_fresh.specs.Alike.{Setting, Frames, Worlds}
 use Rattle.zw_fresh.specs.Naming.{PerhapsNamesNone, BaseNamesNone, no_old}
-use Rattle.zw_fresh.proofs.ActLaws.{Spends, Alike, gives_alike, both_alike, on_alike, if_alike, if_same_alike, in_world_alike, in_frame_alike, reading_alike, framed_alike}
+use Rattle.zw_fresh.proofs.ActLaws.{Grows, Spends, Alike, gives_alike, both_alike, on_alike, if_alike, if_same_alike, in_world_alike, in_frame_alike, reading_alike, framed_alike}
 use Rattle.zw_fresh.proofs.TableLemmas.{assigned-made}
-use Rattle.zw_fresh.proofs.FoundLaws.{id_same, boot_stays, boot_same}
+use Rattle.zw_fresh.proofs.FoundLaws.{core_same}
 use Rattle.zw_fresh.proofs.TextLaws.{as_it_is, class_name_found}
 use Rattle.zw_fresh.proofs.FaultLaws.{fails_alike, no_module_alike, unless_frozen_alike}
 use Rattle.zw_fresh.proofs.FrameLaws.{innermost_same, body_frames}
@@ -37,10 +37,11 @@ use Rattle.zw_fresh.proofs.NamingLaws.{all_free}
 
 -- what a whole frame tells
 pub with_frame_alike : {calm : Bool} {S : Setting calm} {old : Text → Bool} {k k' : Frame → Act}
-    → ((a b : Frame) → Frames S.lift old a b → Alike S old (k a) (k' b)) → ((b : Frame) → Spends (k' b))
-    → Alike S old (in_frame (λ f. f) k) (in_frame (λ f. f) k')
-with_frame_alike {calm} {S} {old} {k} {k'} b l = record {
+    → ((a b : Frame) → Frames S.lift old a b → Alike S old (k a) (k' b)) → ((a : Frame) → Grows (k a))
+    → ((b : Frame) → Spends (k' b)) → Alike S old (in_frame (λ f. f) k) (in_frame (λ f. f) k')
+with_frame_alike {calm} {S} {old} {k} {k'} b g l = record {
   acts = λ p p' P. (b p.frame p'.frame P.frame).acts p p' P;
+  grows = in_frame_keeps (λ f. f) g;
   spends = in_frame_keeps (λ f. f) l;
 }
 
@@ -53,10 +54,10 @@ superclass_same : (S : Setting false) (a b : Option Id)
     → is_superclass (option_map (lifted S.lift) a) (option_map (lifted S.lift) b) ≡ is_superclass a b
 superclass_same S None b = refl
 superclass_same S (Some i) None = refl
-superclass_same S (Some i) (Some j) = id_same S i j
+superclass_same S (Some i) (Some j) = S.apart i j
 
 above_same : (S : Setting false) (o : Option Id) → above_or_object (option_map (lifted S.lift) o) ≡ lifted S.lift (above_or_object o)
-above_same S None = sym (boot_stays S 0)
+above_same S None = sym (S.core_stays 0 refl)
 above_same S (Some i) = refl
 
 module _ {S : Setting false} {old : Text → Bool} where
@@ -87,7 +88,7 @@ module _ {S : Setting false} {old : Text → Bool} where
       (in_scope_alike (λ is h. with_method x (method_as x (code (method_code required optional body is)) h)) (λ is h m.
       ap (λ t. record (ren_module S.lift m) { methods = t }) (assigned-made (ren_method S.lift) x
       (method_as x (code (method_code required optional body is)) h) m.methods)) x)
-      (defines_in_keeps x (method_code required optional body))
+      (defines_in_keeps x (method_code required optional body)) (defines_in_keeps x (method_code required optional body))
 
   pub defines_singleton_alike : (x : Text) (required : List Text) (optional : Defaults) (body : Trees)
       → Alike S old (defines_singleton x required optional body) (defines_singleton x required optional body)
@@ -95,6 +96,7 @@ module _ {S : Setting false} {old : Text → Bool} where
       (in_scope_alike (λ is h. with_singleton x (public_code (method_code required optional body is))) (λ is h m.
       ap (λ t. record (ren_module S.lift m) { singleton = t }) (assigned-made (ren_method S.lift) x
       (public_code (method_code required optional body is)) m.singleton)) x)
+      (defines_singleton_in_keeps x (method_code required optional body))
       (defines_singleton_in_keeps x (method_code required optional body))
 
   -- ---- modules, or a fault
@@ -136,10 +138,10 @@ module _ {S : Setting false} {old : Text → Bool} where
   -- ---- classes
 
   no_class_fault_alike : (n : Text) → Alike S old (no_class_fault n) (no_class_fault n)
-  no_class_fault_alike n = fails_alike 22 (n ++ codes " is not a class")
+  no_class_fault_alike n = fails_alike 22 refl (n ++ codes " is not a class")
 
   mismatch_alike : (n : Text) → Alike S old (mismatch n) (mismatch n)
-  mismatch_alike n = fails_alike 22 (codes "superclass mismatch for class " ++ n)
+  mismatch_alike n = fails_alike 22 refl (codes "superclass mismatch for class " ++ n)
 
   module _ (n : Text) (i : Id) (superclass : Option Id) {k k' : Id → Act}
       (b : (j : Id) → Alike S old (k j) (k' (lifted S.lift j))) (l : (j : Id) → Spends (k' j)) where
@@ -148,7 +150,7 @@ module _ {S : Setting false} {old : Text → Bool} where
     makes_class_alike =
         subst (λ j. Alike S old (makes_class superclass i n k) (if id_eq j Class
         then fails' else makes_opened true (Some j) (lifted S.lift i) n k')) (sym (above_same S superclass))
-        (if_same_alike (boot_same S (above_or_object superclass) 3) (fails_alike 22 (codes "can't make subclass of Class"))
+        (if_same_alike (core_same S (above_or_object superclass) 3 refl) (fails_alike 22 refl (codes "can't make subclass of Class"))
         (makes_opened_alike true (Some (above_or_object superclass)) i n b l))
       where
         fails' : Act
@@ -197,7 +199,7 @@ module _ {S : Setting false} {old : Text → Bool} where
   -- ---- modules
 
   no_module_fault_alike : (n : Text) → Alike S old (no_module_fault n) (no_module_fault n)
-  no_module_fault_alike n = fails_alike 22 (n ++ codes " is not a module")
+  no_module_fault_alike n = fails_alike 22 refl (n ++ codes " is not a module")
 
   module _ (n : Text) (i : Id) {k k' : Id → Act} (b : (j : Id) → Alike S old (k j) (k' (lifted S.lift j)))
       (l : (j : Id) → Spends (k' j)) where
@@ -229,7 +231,7 @@ module _ {S : Setting false} {go : Tree → Act} (E : Evaluates S go) {old : Tex
       (λ is. subst (λ j. Alike S old (k (module_at (innermost_scope is))) (k' (module_at j))) (sym (innermost_same S is))
       (b (module_at (innermost_scope is)))) (λ is. l (module_at (innermost_scope is)))
   base_alike topmost h {k} {k'} b l =
-      subst (λ j. Alike S old (k (module_at Object_class)) (k' (module_at j))) (boot_stays S 0) (b (module_at Object_class))
+      subst (λ j. Alike S old (k (module_at Object_class)) (k' (module_at j))) (S.core_stays 0 refl) (b (module_at Object_class))
   base_alike (within_node e) h b l = on_alike (E.alike old e h) b l
 
   class_body_alike : (body : Trees) (i : Id)

@@ -1,5 +1,5 @@
 -- Eager loading, where no key is stated.
-use Rattle.std.specs.Prelude.{◌≡◌, ℕ, Bool, true, false, List, [], ◌∷◌, Option, Some, None, if◌then◌else◌}
+use Rattle.std.specs.Prelude.{◌≡◌, Bool, true, false, List, [], ◌∷◌, Option, Some, None, if◌then◌else◌}
 use Rattle.std.specs.Option.{option_map, option_map_or}
 use Rattle.std.proofs.Common.{refl, sym, ap, ◌∙◌, subst}
 use Rattle.zw_def.specs.Text.{Text}
@@ -16,11 +16,11 @@ use Rattle.zw_def_world.specs.World.{World, State, is_idle}
 use Rattle.zw_def_world.specs.Eager.{reached_from, if_home, reached, loads_unless_set, loads_at, loads_if_idle, loads_all}
 use Rattle.zw_def_world.specs.Act.{Act}
 use Rattle.zw_def_world.proofs.LoadLaws.{loads_unless_set_keeps, loads_at_keeps, loads_if_idle_keeps}
-use Rattle.zw_fresh.specs.Renaming.{lifted, ren, ren_table, ren_module}
+use Rattle.zw_fresh.specs.Renaming.{Names, lifted, ren, ren_table, ren_module}
 use Rattle.zw_fresh.specs.Alike.{Setting, Found, Worlds}
 use Rattle.zw_fresh.proofs.ActLaws.{Alike, gives_alike, both_alike, if_alike, in_world_alike, reading_alike}
 use Rattle.zw_fresh.proofs.TableLemmas.{at-made}
-use Rattle.zw_fresh.proofs.FoundLaws.{some_found, found_bind, met_bind, module_map, boot_stays}
+use Rattle.zw_fresh.proofs.FoundLaws.{some_found, found_bind, met_bind, module_map}
 use Rattle.zw_fresh.proofs.TextLaws.{as_it_is}
 use Rattle.zw_fresh.proofs.MethodLaws.{as_module_same}
 use Rattle.zw_fresh.proofs.KeyLaws.{in_record_alike}
@@ -36,7 +36,7 @@ holds_same S n t = ap (λ o. bind o as_module) (at-made (ren S.lift) n t) ∙ on
     one None = refl
     one (Some v) = as_module_same S v
 
-home_same : (f : ℕ → ℕ) (i : Id) (b : Bool)
+home_same : (f : Names) (i : Id) (b : Bool)
     → (if b then Some (lifted f i) else None) ≡ option_map (lifted f) (if b then Some i else None)
 home_same f i true = refl
 home_same f i false = refl
@@ -62,7 +62,7 @@ module _ {S : Setting false} {w w' : World} (W : Worlds false S w w') where
   reached_found : (p : ConstantPath) → Found false (option_map (lifted S.lift)) (reached w p) (reached w' p)
   reached_found p = found_bind (if_home w p) (if_home w' p)
       (subst (λ i. Found false (option_map (lifted S.lift)) (reached_from w p (Some Object_class)) (reached_from w' p (Some i)))
-      (boot_stays S 0) (from_found p (Some Object_class))) (home_found p)
+      (S.core_stays 0 refl) (from_found p (Some Object_class))) (home_found p)
 
 module _ {S : Setting false} {go : Node → Act} (E : Evaluates S go) {old : Text → Bool} where
   unless_set_alike : (k : Key) (i : Id) (o : Option Value)

@@ -94,10 +94,12 @@ pub run_evaluates : (S : Setting false) (n level : ℕ) → Evaluates S (run n l
 unfolding run
 run_evaluates S zero level = record {
   alike = λ old t h. paid_alike 1 (ends_alike lost);
+  grows = run_keeps zero level;
   spends = run_keeps zero level;
 }
 run_evaluates S (suc n) level = record {
   alike = λ old t h. paid_alike 1 (if_alike (level == max_level) (ends_alike too_deep)
       (row_of_alike n (run_evaluates S n (level + 1)) old t h));
+  grows = run_keeps (suc n) level;
   spends = run_keeps (suc n) level;
 }

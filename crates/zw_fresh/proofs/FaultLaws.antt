@@ -1,10 +1,11 @@
 -- Exceptions that are raised, and what is made, at points alike.
 use Prim.Native.String.{String}
-use Rattle.std.specs.Prelude.{◌≡◌, ℕ, ℤ, ◌+◌, ◌/◌, Bool, nat_lt, List, [], ◌∷◌, ◌++◌, codes, length, map, max}
+use Rattle.std.specs.Prelude.{◌≡◌, ℕ, ℤ, ◌+◌, ◌/◌, Bool, true, nat_lt, List, [], ◌∷◌, ◌++◌, codes, length, map, max}
 use Rattle.std.proofs.Common.{refl, sym, ap, ◌∙◌, subst}
 use Rattle.std.proofs.lemmas.List.{length-map}
 use Rattle.zw_def.specs.Text.{Text}
 use Rattle.zw_def_world.specs.Id.{Id, boot_id}
+use Rattle.zw_def_world.specs.CoreClass.{core_count}
 use Rattle.zw_def_world.specs.Value.{Value, Values, nil, truth, int, text, symbol, array, module_at, object_at, no_values, value_then, array_of}
 use Rattle.zw_def_world.specs.World.{with_object}
 use Rattle.zw_def_world.specs.Making.{exception, raises, max_text, max_items, max_nesting, too_long, fails, makes_text, nesting, nesting_of, pays_array, makes_array, fits, makes_integer}
@@ -12,24 +13,23 @@ use Rattle.zw_def_world.specs.Fault.{quote, no_constant, fails_for, no_variable,
 use Rattle.zw_def_world.specs.Act.{Act, gives, raised, changing, paid}
 use Rattle.zw_def_world.proofs.EvolutionLaws.{keeping, if_keeps, both_keep, made_keeps, ends_keeps}
 use Rattle.zw_def_world.proofs.FaultLaws.{fails_keeps, frozen_fault_keeps}
-use Rattle.zw_fresh.specs.Renaming.{lifted, ren, ren_all, ren_object}
+use Rattle.zw_fresh.specs.Renaming.{Names, lifted, lifted_object, ren, ren_all, ren_object}
 use Rattle.zw_fresh.specs.Alike.{Setting}
 use Rattle.zw_fresh.proofs.ActLaws.{Alike, ends_alike, gives_alike, both_alike, if_alike, if_same_alike, in_world_alike, reading_alike, paid_alike}
-use Rattle.zw_fresh.proofs.FoundLaws.{boot_stays}
 use Rattle.zw_fresh.proofs.TextLaws.{told_found, inspected_found, is_frozen_found, class_name_found}
-use Rattle.zw_fresh.proofs.WorldLaws.{fresh_same, made_same}
+use Rattle.zw_fresh.proofs.WorldLaws.{fresh_object, made_same}
 use Rattle.zw_fresh.proofs.ChangeLaws.{changing_alike, in_module_alike}
 
 -- the values there
-abbrev pub ren_list : (ℕ → ℕ) → List Value → List Value
+abbrev pub ren_list : Names → List Value → List Value
 ren_list f vs = map (ren f) vs
 
-pub array_same : (f : ℕ → ℕ) (vs : List Value) → array_of (ren_list f vs) ≡ ren_all f (array_of vs)
+pub array_same : (f : Names) (vs : List Value) → array_of (ren_list f vs) ≡ ren_all f (array_of vs)
 array_same f [] = refl
 array_same f (v ∷ vs) = ap (value_then (ren f v)) (array_same f vs)
 
 mutual
-  pub nesting_same : (f : ℕ → ℕ) (v : Value) → nesting (ren f v) ≡ nesting v
+  pub nesting_same : (f : Names) (v : Value) → nesting (ren f v) ≡ nesting v
   nesting_same f nil = refl
   nesting_same f (truth b) = refl
   nesting_same f (int z) = refl
@@ -39,7 +39,7 @@ mutual
   nesting_same f (module_at i) = refl
   nesting_same f (object_at i) = refl
 
-  pub nestings_same : (f : ℕ → ℕ) (n m : ℕ) (vs : Values) → m ≡ n → nesting_of m (ren_all f vs) ≡ nesting_of n vs
+  pub nestings_same : (f : Names) (n m : ℕ) (vs : Values) → m ≡ n → nesting_of m (ren_all f vs) ≡ nesting_of n vs
   nestings_same f n m no_values e = e
   nestings_same f n m (value_then v vs) e = nestings_same f _ _ vs (λ k. max (e k) (nesting_same f v k + 1))
 
@@ -47,22 +47,24 @@ module _ {calm : Bool} {S : Setting calm} {old : Text → Bool} where
   -- ---- exceptions
 
   -- of a class of boot's
-  pub raises_alike : (n : ℕ) (t : Text) → Alike S old (raises (boot_id n) t) (raises (boot_id n) t)
-  raises_alike n t =
-      in_world_alike (lifted S.lift) (λ w w' W. fresh_same W)
-      (λ i. both_alike (made n t) (ends_alike (raised i))) (λ i. both_keep (made_keeps (exception (boot_id n) t) nil) (ends_keeps (raised i)))
+  pub raises_alike : (n : ℕ) → nat_lt n core_count ≡ true → (t : Text)
+      → Alike S old (raises (boot_id n) t) (raises (boot_id n) t)
+  raises_alike n core t =
+      in_world_alike (lifted_object S.lift) (λ w w' W. fresh_object W)
+      (λ i. both_alike made (ends_alike (raised i))) (λ i. both_keep (made_keeps (exception (boot_id n) t) nil) (ends_keeps (raised i)))
     where
-      made : (n : ℕ) (t : Text) → Alike S old (changing (with_object (exception (boot_id n) t)) nil) (changing (with_object (exception (boot_id n) t)) nil)
-      made n t = subst (λ c. Alike S old (changing (with_object (exception (boot_id n) t)) nil) (changing (with_object (exception c t)) nil))
-          (boot_stays S n)
+      made : Alike S old (changing (with_object (exception (boot_id n) t)) nil) (changing (with_object (exception (boot_id n) t)) nil)
+      made = subst (λ c. Alike S old (changing (with_object (exception (boot_id n) t)) nil) (changing (with_object (exception c t)) nil))
+          (S.core_stays n core)
           (changing_alike (with_object (exception (boot_id n) t)) (with_object (ren_object S.lift (exception (boot_id n) t)))
-          (λ w w' W. made_same W (exception (boot_id n) t)) (λ w. refl) nil)
+          (λ w w' W. made_same W (exception (boot_id n) t)) (λ w. refl) (λ w j h. h) nil)
 
   pub too_long_alike : Alike S old too_long too_long
-  too_long_alike = raises_alike 20 (codes "text too long")
+  too_long_alike = raises_alike 20 refl (codes "text too long")
 
-  pub fails_alike : (n : ℕ) (t : Text) → Alike S old (fails (boot_id n) t) (fails (boot_id n) t)
-  fails_alike n t = if_alike (nat_lt max_text (length t)) too_long_alike (raises_alike n t)
+  pub fails_alike : (n : ℕ) → nat_lt n core_count ≡ true → (t : Text)
+      → Alike S old (fails (boot_id n) t) (fails (boot_id n) t)
+  fails_alike n core t = if_alike (nat_lt max_text (length t)) too_long_alike (raises_alike n core t)
 
   -- ---- what is made
 
@@ -71,7 +73,7 @@ module _ {calm : Bool} {S : Setting calm} {old : Text → Bool} where
       if_alike (nat_lt max_text (length t)) too_long_alike (paid_alike (length t / 64) (gives_alike (text t)))
 
   pub makes_integer_alike : (z : ℤ) → Alike S old (makes_integer z) (makes_integer z)
-  makes_integer_alike z = if_alike (fits z) (gives_alike (int z)) (raises_alike 20 (codes "integer out of range"))
+  makes_integer_alike z = if_alike (fits z) (gives_alike (int z)) (raises_alike 20 refl (codes "integer out of range"))
 
   pays_array_alike : (vs : List Value) → Alike S old (pays_array vs) (pays_array (ren_list S.lift vs))
   pays_array_alike vs =
@@ -82,29 +84,29 @@ module _ {calm : Bool} {S : Setting calm} {old : Text → Bool} where
 
   pub makes_array_alike : (vs : List Value) → Alike S old (makes_array vs) (makes_array (ren_list S.lift vs))
   makes_array_alike vs =
-      if_same_alike (ap (nat_lt max_items) (length-map vs (ren S.lift))) (raises_alike 20 (codes "array too long"))
+      if_same_alike (ap (nat_lt max_items) (length-map vs (ren S.lift))) (raises_alike 20 refl (codes "array too long"))
       (if_same_alike (ap (nat_lt max_nesting) (ap (nesting_of 1) (array_same S.lift vs) ∙ nestings_same S.lift 1 1 (array_of vs) refl))
-      (raises_alike 20 (codes "array nested too deep")) (pays_array_alike vs))
+      (raises_alike 20 refl (codes "array nested too deep")) (pays_array_alike vs))
 
   -- ---- faults
 
   pub no_constant_alike : (i : Id) (n : Text) → Alike S old (no_constant i n) (no_constant (lifted S.lift i) n)
   no_constant_alike i n = in_module_alike i _ _ (λ m c. search fails_alike) (λ m. search fails_keeps)
 
-  pub fails_for_alike : (n : ℕ) (start x : Text) (v : Value)
+  pub fails_for_alike : (n : ℕ) → nat_lt n core_count ≡ true → (start x : Text) (v : Value)
       → Alike S old (fails_for (boot_id n) start x v) (fails_for (boot_id n) start x (ren S.lift v))
-  fails_for_alike n start x v =
+  fails_for_alike n core start x v =
       let message : Text → Text = λ t. start ++ quote x ++ codes " for " ++ t in
-      reading_alike (λ w w' W. told_found W v) (λ t. fails_alike n (message t)) (λ t. fails_keeps (boot_id n) (message t))
+      reading_alike (λ w w' W. told_found W v) (λ t. fails_alike n core (message t)) (λ t. fails_keeps (boot_id n) (message t))
 
   pub no_variable_alike : (v : Value) (x : Text) → Alike S old (no_variable v x) (no_variable (ren S.lift v) x)
-  no_variable_alike v x = fails_for_alike 19 (codes "undefined local variable or method ") x v
+  no_variable_alike v x = fails_for_alike 19 refl (codes "undefined local variable or method ") x v
 
   pub no_method_alike : (v : Value) (x : Text) → Alike S old (no_method v x) (no_method (ren S.lift v) x)
-  no_method_alike v x = fails_for_alike 24 (codes "undefined method ") x v
+  no_method_alike v x = fails_for_alike 24 refl (codes "undefined method ") x v
 
   pub no_super_alike : (v : Value) (x : Text) → Alike S old (no_super v x) (no_super (ren S.lift v) x)
-  no_super_alike v x = fails_for_alike 24 (codes "super: no superclass method ") x v
+  no_super_alike v x = fails_for_alike 24 refl (codes "super: no superclass method ") x v
 
   pub private_method_alike : (v : Value) (x : Text) → Alike S old (private_method v x) (private_method (ren S.lift v) x)
   private_method_alike v x =

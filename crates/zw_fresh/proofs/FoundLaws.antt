@@ -1,17 +1,18 @@
 -- What is looked up in two worlds alike, in steps: there it is what it is here, renamed.
-use Rattle.std.specs.Prelude.{◌≡◌, ℕ, Bool, true, false, ◌&&◌, ◌==◌, List, [], ◌∷◌, ◌++◌, map, Option, Some, None, if◌then◌else◌}
+use Rattle.std.specs.Prelude.{◌≡◌, ℕ, nat_lt, Bool, true, false, List, [], ◌∷◌, ◌++◌, map, Option, Some, None, if◌then◌else◌}
 use Rattle.std.specs.Option.{option_map}
 use Rattle.std.proofs.Common.{refl, sym, ap, ◌∙◌, subst}
 use Rattle.std.proofs.lemmas.List.{map-append}
 use Rattle.zw_def.specs.Text.{Text}
 use Rattle.zw_def.specs.ConstantPath.{ConstantPath}
 use Rattle.zw_def_world.specs.Missing.{bind, joined, is_some_so}
-use Rattle.zw_def_world.specs.Id.{Id, id_eq, same_load, boot_id}
+use Rattle.zw_def_world.specs.Id.{Id, id_eq, boot_id}
+use Rattle.zw_def_world.specs.CoreClass.{core_count, main_id}
 use Rattle.zw_def_world.specs.Value.{Value}
 use Rattle.zw_def_world.specs.Table.{Table}
 use Rattle.zw_def_world.specs.Record.{Module, Object}
 use Rattle.zw_def_world.specs.World.{World}
-use Rattle.zw_fresh.specs.Renaming.{lifted, ren_object, ren_table}
+use Rattle.zw_fresh.specs.Renaming.{Names, lifted, lifted_object, ren_object, ren_table}
 use Rattle.zw_fresh.specs.Alike.{Setting, Renamed, Found, Met, Modules, module_with, shows, Objects, Worlds}
 
 -- ---- any look-ups
@@ -95,21 +96,18 @@ is_some_so_found f f' h (x ∷ xs) =
 -- ---- names and records
 
 module _ {calm : Bool} (S : Setting calm) where
-  pub id_same : (i j : Id) → id_eq (lifted S.lift i) (lifted S.lift j) ≡ id_eq i j
-  id_same i j = ap (λ b. i.count == j.count && b && same_load i.load j.load) (S.apart i.setup j.setup)
+  -- a core class, asked for there
+  pub core_same : (i : Id) (n : ℕ) → nat_lt n core_count ≡ true → id_eq (lifted S.lift i) (boot_id n) ≡ id_eq i (boot_id n)
+  core_same i n below = ap (λ j. id_eq (lifted S.lift i) j) (sym (S.core_stays n below)) ∙ S.apart i (boot_id n)
 
-  pub boot_stays : (n : ℕ) → lifted S.lift (boot_id n) ≡ boot_id n
-  boot_stays n = ap (λ s. let i : Id = record { setup = s; load = None; count = n } in i) S.zero_stays
+  pub core_same_back : (i : Id) (n : ℕ) → nat_lt n core_count ≡ true → id_eq (boot_id n) (lifted S.lift i) ≡ id_eq (boot_id n) i
+  core_same_back i n below = ap (λ j. id_eq j (lifted S.lift i)) (sym (S.core_stays n below)) ∙ S.apart (boot_id n) i
 
-  -- a name of boot's, asked for there
-  pub boot_same : (i : Id) (n : ℕ) → id_eq (lifted S.lift i) (boot_id n) ≡ id_eq i (boot_id n)
-  boot_same i n = ap (λ j. id_eq (lifted S.lift i) j) (sym (boot_stays n)) ∙ id_same i (boot_id n)
-
-  pub boot_same_back : (i : Id) (n : ℕ) → id_eq (boot_id n) (lifted S.lift i) ≡ id_eq (boot_id n) i
-  boot_same_back i n = ap (λ j. id_eq j (lifted S.lift i)) (sym (boot_stays n)) ∙ id_same (boot_id n) i
+  pub main_same : (i : Id) → id_eq (lifted_object S.lift i) main_id ≡ id_eq i main_id
+  main_same i = ap (λ j. id_eq (lifted_object S.lift i) j) (sym S.main_stays) ∙ S.objects_apart i main_id
 
 -- a module there is one here with constants of its own
-pub module_like : (calm : Bool) (f : ℕ → ℕ) (shown : Option ConstantPath → Text → Bool) (m m' : Module)
+pub module_like : (calm : Bool) (f : Names) (shown : Option ConstantPath → Text → Bool) (m m' : Module)
     → Modules calm f shown m m' → (c : Table Value) × (m' ≡ module_with f c m)
 module_like true f shown m m' M = (m'.constants, M.others)
 module_like false f shown m m' M = (ren_table f m.constants, M)
@@ -131,8 +129,8 @@ module _ {calm : Bool} {S : Setting calm} {w w' : World} (W : Worlds calm S w w'
       met_map calm (Modules calm S.lift (shows calm S w)) k k' (w.modules i) (w'.modules (lifted S.lift i)) (W.modules i) (λ m m' M.
       let like = module_like calm S.lift (shows calm S w) m m' M in ap k' like.1 ∙ f m like.0)
 
-  pub object_found : (i : Id) → Found calm (ren_object S.lift) (w.objects i) (w'.objects (lifted S.lift i))
-  object_found i = record { so = at calm S (w.objects i) (w'.objects (lifted S.lift i)) (W.objects i) }
+  pub object_found : (i : Id) → Found calm (ren_object S.lift) (w.objects i) (w'.objects (lifted_object S.lift i))
+  object_found i = record { so = at calm S (w.objects i) (w'.objects (lifted_object S.lift i)) (W.objects i) }
     where
       at : (c : Bool) (T : Setting c) (o o' : Option Object) → Met c (Objects T.lift) o o'
           → Renamed c (ren_object T.lift) o o'
@@ -144,10 +142,10 @@ module _ {calm : Bool} {S : Setting calm} {w w' : World} (W : Worlds calm S w w'
 
   pub object_bind : {C D : Type 0} {h : C → D} (k : Object → Option C) (k' : Object → Option D) (i : Id)
       → ((o : Object) → Found calm h (k o) (k' (ren_object S.lift o)))
-      → Found calm h (bind (w.objects i) k) (bind (w'.objects (lifted S.lift i)) k')
+      → Found calm h (bind (w.objects i) k) (bind (w'.objects (lifted_object S.lift i)) k')
   object_bind k k' i f = found_bind k k' (object_found i) f
 
   pub object_map : {C D : Type 0} {h : C → D} (k : Object → C) (k' : Object → D) (i : Id)
       → ((o : Object) → k' (ren_object S.lift o) ≡ h (k o))
-      → Found calm h (option_map k (w.objects i)) (option_map k' (w'.objects (lifted S.lift i)))
+      → Found calm h (option_map k (w.objects i)) (option_map k' (w'.objects (lifted_object S.lift i)))
   object_map k k' i f = found_map k k' (object_found i) f

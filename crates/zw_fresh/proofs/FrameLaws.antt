@@ -1,5 +1,5 @@
 -- Frames of two points alike: variables, scopes and the frames of methods and bodies.
-use Rattle.std.specs.Prelude.{◌≡◌, ℕ, Bool, true, false, IsFalse, List, [], ◌∷◌, Option, Some, None, if◌then◌else◌}
+use Rattle.std.specs.Prelude.{◌≡◌, Bool, true, false, IsFalse, List, [], ◌∷◌, Option, Some, None, if◌then◌else◌}
 use Rattle.std.specs.Option.{option_map, unwrap_or}
 use Rattle.std.specs.Str.{bytes_eq}
 use Rattle.std.proofs.Common.{refl, sym, ap, ◌∙◌}
@@ -12,19 +12,18 @@ use Rattle.zw_def_world.specs.Frame.{Running, Frame, with_local, innermost_scope
 use Rattle.zw_def_world.specs.Call.{required_locals, method_frame, or_nil, sets_local}
 use Rattle.zw_def_world.specs.Control.{values_at}
 use Rattle.zw_def_world.specs.Definition.{body_frame}
-use Rattle.zw_fresh.specs.Renaming.{lifted, lifted_all, ren, ren_table, ren_running, ren_code}
+use Rattle.zw_fresh.specs.Renaming.{Names, lifted, lifted_all, ren, ren_table, ren_running, ren_code}
 use Rattle.zw_fresh.specs.Alike.{Setting, Frames}
 use Rattle.zw_fresh.specs.Naming.{no_old}
 use Rattle.zw_fresh.proofs.ActLaws.{Alike, gives_alike}
 use Rattle.zw_fresh.proofs.TableLemmas.{at-assigned, at-made}
-use Rattle.zw_fresh.proofs.FoundLaws.{boot_stays}
 use Rattle.zw_fresh.proofs.ChangeLaws.{changing_frame_alike}
 use Rattle.zw_fresh.proofs.FaultLaws.{ren_list}
 use Rattle.zw_fresh.proofs.NameLemmas.{apart}
 
 -- ---- variables
 
-pub local_frames : {f : ℕ → ℕ} {old : Text → Bool} (x : Text) (v : Value) (a b : Frame) → Frames f old a b
+pub local_frames : {f : Names} {old : Text → Bool} (x : Text) (v : Value) (a b : Frame) → Frames f old a b
     → Frames f old (with_local x v a) (with_local x (ren f v) b)
 local_frames {f} {old} x v a b F = record {
   self_value = F.self_value;
@@ -49,13 +48,13 @@ local_frames {f} {old} x v a b F = record {
         at-assigned x (ren f v) b.locals y
         ∙ (one y h (bytes_eq x y) ∙ sym (ap (option_map (ren f)) (at-assigned x v a.locals y)))
 
-pub required_same : (f : ℕ → ℕ) (xs : List Text) (vs : List Value)
+pub required_same : (f : Names) (xs : List Text) (vs : List Value)
     → required_locals xs (ren_list f vs) ≡ ren_table f (required_locals xs vs)
 required_same f [] vs = refl
 required_same f (x ∷ xs) [] = refl
 required_same f (x ∷ xs) (v ∷ vs) = ap (λ l. (x, ren f v) ∷ l) (required_same f xs vs)
 
-pub values_same : (f : ℕ → ℕ) (here there : Table Value) (xs : List Text)
+pub values_same : (f : Names) (here there : Table Value) (xs : List Text)
     → ((x : Text) → at x there ≡ option_map (ren f) (at x here)) → values_at there xs ≡ ren_list f (values_at here xs)
 values_same f here there [] h = refl
 values_same f here there (x ∷ xs) h = λ k. one (at x here) (at x there) (h x) k ∷ values_same f here there xs h k
@@ -65,7 +64,7 @@ values_same f here there (x ∷ xs) h = λ k. one (at x here) (at x there) (h x)
     one (Some v) o' e = ap (λ z. unwrap_or z nil) e
 
 -- a frame's parameters are no older variables
-pub parameters_same : (f : ℕ → ℕ) (old : Text → Bool) (a b : Frame) → Frames f old a b
+pub parameters_same : (f : Names) (old : Text → Bool) (a b : Frame) → Frames f old a b
     → values_at b.locals b.parameters ≡ ren_list f (values_at a.locals a.parameters)
 parameters_same f old a b F =
     ap (values_at b.locals) F.parameters ∙ by a.parameters refl
@@ -86,7 +85,7 @@ parameters_same f old a b F =
 
 module _ {calm : Bool} (S : Setting calm) where
   pub innermost_same : (is : List Id) → innermost_scope (lifted_all S.lift is) ≡ lifted S.lift (innermost_scope is)
-  innermost_same [] = sym (boot_stays S 0)
+  innermost_same [] = sym (S.core_stays 0 refl)
   innermost_same (i ∷ is) = refl
 
   pub method_frames : (r : Value) (running : Running) (c : Code) (vs : List Value)
@@ -120,7 +119,7 @@ module _ {calm : Bool} (S : Setting calm) where
 
   pub top_frames : (locals : Table Value) → Frames S.lift no_old (top_frame locals) (top_frame (ren_table S.lift locals))
   top_frames locals = record {
-    self_value = ap object_at (sym (boot_stays S 30));
+    self_value = ap object_at (sym S.main_stays);
     scopes = refl;
     locals = λ x h. at-made (ren S.lift) x locals;
     is_console = refl;

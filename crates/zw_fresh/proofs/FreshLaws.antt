@@ -1,23 +1,24 @@
 -- What a reload mounts and what a fresh process mounts are alike.
-use Rattle.std.specs.Prelude.{◌≡◌, ℕ, zero, suc, ◌+◌, ◌<◌, ◌==◌, Bool, true, false, List, Option, Some, None, if◌then◌else◌}
+use Rattle.std.specs.Prelude.{◌≡◌, ℕ, zero, suc, ◌+◌, ◌<◌, ◌==◌, ◌&&◌, Bool, true, false, List, Option, Some, None, if◌then◌else◌}
 use Rattle.std.specs.Option.{option_map}
 use Rattle.std.proofs.Common.{refl, sym, ap, ◌∙◌, subst, arith, le_refl}
 use Rattle.std.proofs.lemmas.Bool.Decides.{Decides-eqb}
 use Rattle.zw_def.specs.Text.{Text}
 use Rattle.zw_def.specs.Tree.{Tree}
 use Rattle.zw_def.specs.Map.{Key}
-use Rattle.zw_def_world.specs.Id.{Id, Records, is_of_boot}
+use Rattle.zw_def_world.specs.Id.{Id, Records, id_eq, same_load, is_of_boot}
 use Rattle.zw_def_world.specs.Record.{homeless}
 use Rattle.zw_def_world.specs.World.{World, restored, mounted}
 use Rattle.zw_fresh.specs.Renaming.{lifted, ren_module}
 use Rattle.zw_fresh.specs.Alike.{Setting, Met, Objects, Worlds}
-use Rattle.zw_fresh.specs.Fresh.{raised_by}
+use Rattle.zw_fresh.specs.Fresh.{raised_by, later_name, raised}
+use Rattle.zw_fresh.specs.Sessions.{IsPlain}
 use Rattle.zw_fresh.specs.Setups.{NoneComing, Past}
 use Rattle.zw_fresh.proofs.NameLemmas.{apart}
 
 -- ---- the numbers of setups
 
-same_test : (b c : Bool) → (b ≡ true → c ≡ true) → (c ≡ true → b ≡ true) → b ≡ c
+pub same_test : (b c : Bool) → (b ≡ true → c ≡ true) → (c ≡ true → b ≡ true) → b ≡ c
 same_test true c f g = sym (f refl)
 same_test false true f g = absurd (apart (sym (g refl)))
 same_test false false f g = refl
@@ -46,12 +47,23 @@ raised_apart d a b = same_test (raised_by d a == raised_by d b) (a == b)
         let q = raised_later d (suc b) (omega arith) in
         omega (arith, e, r, q)
 
--- no key is stated, and nothing is owed
+pub later_apart : (d : ℕ) (i j : Id) → id_eq (later_name d i) (later_name d j) ≡ id_eq i j
+later_apart d i j = ap (λ b. i.count == j.count && b && same_load i.load j.load) (raised_apart d i.setup j.setup)
+
+-- no key is stated, nothing is owed, and every world is within bounds
 abbrev pub fresh_setting : ℕ → Text → Text → Setting false
 fresh_setting d front front' = record {
-  lift = raised_by d;
+  lift = raised d;
+  apart = later_apart d;
+  objects_apart = later_apart d;
+  core_stays = λ n core. refl;
+  main_stays = refl;
+  setup_there = raised_by d;
   zero_stays = raised_zero d;
-  apart = raised_apart d;
+  within = λ w. Unit {0};
+  within_before = λ w w' kept inside. tt;
+  object_named = λ w. refl;
+  module_named = λ w i n made inside. refl;
   stated = λ p. false;
   owed = λ states. 0;
   total = 0;
@@ -66,6 +78,14 @@ fresh_setting d front front' = record {
   front' = front';
 }
 
+pub fresh_plain : (d : ℕ) (front front' : Text) → IsPlain (fresh_setting d front front')
+fresh_plain d front front' = record {
+  all_within = λ w. tt;
+  modules = λ i. refl;
+  objects = λ i. refl;
+  of_boot = λ n. raised_apart d n 0;
+}
+
 -- ---- what is mounted
 
 some_none : {A : Type 0} (x : A) → Some x ≡ None → ⊥
@@ -77,33 +97,45 @@ missing_met R g None None e f = tt
 missing_met R g None (Some y) e f = absurd (some_none y f)
 missing_met R g (Some x) o' e f = absurd (some_none x e)
 
-restored_met : {A : Type 0} (S : Setting false) (R : A → A → Type 0) (setups : ℕ) (g : A → A) (boot records : Records A)
-    → ((n : ℕ) → 0 < n → setups < S.lift n) → NoneComing 0 boot → NoneComing setups records
-    → ((i : Id) → Met false R (boot i) (boot (lifted S.lift i))) → (i : Id)
-    → Met false R (boot i) (if is_of_boot (lifted S.lift i) then boot (lifted S.lift i) else option_map g (records (lifted S.lift i)))
-restored_met S R setups g boot records above none later all i =
-    subst (λ b. Met false R (boot i) (if b then boot (lifted S.lift i) else option_map g (records (lifted S.lift i))))
-    (sym (ap (λ z. S.lift i.setup == z) (sym S.zero_stays) ∙ S.apart i.setup 0)) (at (i.setup == 0) refl)
+-- records of names whose setups are raised
+restored_met : {A : Type 0} (d : ℕ) (R : A → A → Type 0) (g : A → A) (boot records : Records A)
+    → NoneComing 0 boot → NoneComing d records → ((i : Id) → Met false R (boot i) (boot (later_name d i))) → (i : Id)
+    → Met false R (boot i) (if is_of_boot (later_name d i) then boot (later_name d i) else option_map g (records (later_name d i)))
+restored_met d R g boot records none later all i =
+    subst (λ b. Met false R (boot i) (if b then boot (later_name d i) else option_map g (records (later_name d i))))
+    (sym (raised_apart d i.setup 0)) (at (i.setup == 0) refl)
   where
+    more : (n : ℕ) → 0 < n → d < n + d
+    more n h = omega (arith, h)
+
     positive : (n : ℕ) → (n == 0) ≡ false → 0 < n
     positive zero e = absurd (apart e)
     positive (suc n) e = omega arith
 
     at : (b : Bool) → (i.setup == 0) ≡ b
-        → Met false R (boot i) (if b then boot (lifted S.lift i) else option_map g (records (lifted S.lift i)))
+        → Met false R (boot i) (if b then boot (later_name d i) else option_map g (records (later_name d i)))
     at true e = all i
     at false e =
         let later_setup = positive i.setup e in
-        missing_met R g (boot i) (records (lifted S.lift i)) (none i later_setup) (later (lifted S.lift i) (above i.setup later_setup))
+        missing_met R g (boot i) (records (later_name d i)) (none i later_setup)
+        (later (later_name d i) (subst (λ m. d < m) (sym (raised_later d i.setup later_setup)) (more i.setup later_setup)))
+
+-- the records that are restored are boot's, alike to themselves
+pub restored_modules : (image w : World) (front front' : Text) → image.setups ≡ 0 → Past image
+    → Worlds false (fresh_setting w.setups front front') image image → Past w
+    → (i : Id) → Met false (λ m m'. m' ≡ ren_module (raised w.setups) m) (image.modules i)
+    ((restored image w).modules (lifted (raised w.setups) i))
+restored_modules image w front front' first none self later =
+    restored_met w.setups (λ m m'. m' ≡ ren_module (raised w.setups) m) homeless image.modules w.modules
+    (λ i h. none.modules i (subst (λ n. n < i.setup) (sym first) h)) later.modules self.modules
 
 -- The image of boot is alike to itself, as far as names of boot reach. A session came from it: it has set up some
 -- times, and no record of a coming setup is made.
-pub mounted_alike : (S : Setting false) (image w : World) (tree : Tree) (keys : List Key)
-    → image.setups ≡ 0 → Past image → Worlds false S image image → Past w → w.setting ≡ image.setting
-    → S.lift 1 ≡ w.setups + 1 → ((n : ℕ) → 0 < n → w.setups < S.lift n)
-    → Worlds false S (mounted tree keys image) (mounted tree keys (restored image w))
-mounted_alike S image w tree keys first none self later setting next above = record {
-  setups = sym (ap (λ n. S.lift (n + 1)) first ∙ next);
+pub reloaded_alike : (image w : World) (front front' : Text) (tree : Tree) (keys : List Key) → image.setups ≡ 0 → Past image
+    → Worlds false (fresh_setting w.setups front front') image image → Past w → w.setting ≡ image.setting
+    → Worlds false (fresh_setting w.setups front front') (mounted tree keys image) (mounted tree keys (restored image w))
+reloaded_alike image w front front' tree keys first none self later setting = record {
+  setups = sym (ap (λ n. raised_by w.setups (n + 1)) first ∙ (raised_later w.setups 1 (omega arith) ∙ one w.setups));
   loads = refl;
   calm_loads = tt;
   counts = λ l. refl;
@@ -112,37 +144,11 @@ mounted_alike S image w tree keys first none self later setting next above = rec
   setting = setting;
   states = λ p. refl;
   order = refl;
-  modules = restored_met S (λ m m'. m' ≡ ren_module S.lift m) w.setups homeless image.modules w.modules above
-      (λ i h. none.modules i (subst (λ n. n < i.setup) (sym first) h)) later.modules self.modules;
-  objects = restored_met S (Objects S.lift) w.setups (λ o. o) image.objects w.objects above
+  modules = restored_modules image w front front' first none self later;
+  objects = restored_met w.setups (Objects (raised w.setups)) (λ o. o) image.objects w.objects
       (λ i h. none.objects i (subst (λ n. n < i.setup) (sym first) h)) later.objects self.objects;
   due = tt;
 }
-
--- the records that are restored are boot's, alike to themselves
-pub restored_modules : (image w : World) (front front' : Text) → image.setups ≡ 0 → Past image
-    → Worlds false (fresh_setting w.setups front front') image image → Past w
-    → (i : Id) → Met false (λ m m'. m' ≡ ren_module (raised_by w.setups) m) (image.modules i)
-    ((restored image w).modules (lifted (raised_by w.setups) i))
-restored_modules image w front front' first none self later =
-    restored_met (fresh_setting w.setups front front') (λ m m'. m' ≡ ren_module (raised_by w.setups) m) w.setups homeless
-    image.modules w.modules (λ n h. subst (λ m. w.setups < m) (sym (raised_later w.setups n h)) (more n w.setups h))
-    (λ i h. none.modules i (subst (λ n. n < i.setup) (sym first) h)) later.modules self.modules
-  where
-    more : (n d : ℕ) → 0 < n → d < n + d
-    more n d h = omega (arith, h)
-
--- so they are for the numbers that a session after so many setups has
-pub reloaded_alike : (image w : World) (front front' : Text) (tree : Tree) (keys : List Key) → image.setups ≡ 0 → Past image
-    → Worlds false (fresh_setting w.setups front front') image image → Past w → w.setting ≡ image.setting
-    → Worlds false (fresh_setting w.setups front front') (mounted tree keys image) (mounted tree keys (restored image w))
-reloaded_alike image w front front' tree keys first none self later setting =
-    mounted_alike (fresh_setting w.setups front front') image w tree keys first none self later setting
-    (raised_later w.setups 1 (omega arith) ∙ one w.setups)
-    (λ n h. subst (λ m. w.setups < m) (sym (raised_later w.setups n h)) (more n w.setups h))
   where
     one : (d : ℕ) → 1 + d ≡ d + 1
     one d = omega arith
-
-    more : (n d : ℕ) → 0 < n → d < n + d
-    more n d h = omega (arith, h)

@@ -11,13 +11,25 @@ use Rattle.zw_def_world.specs.Missing.{bind}
 use Rattle.zw_def_world.specs.Id.{Id}
 use Rattle.zw_def_world.specs.CoreClass.{Object_class}
 use Rattle.zw_def_world.specs.Value.{Value, as_module}
-use Rattle.zw_def_world.specs.Table.{at}
+use Rattle.zw_def_world.specs.Table.{Table, at}
 use Rattle.zw_def_world.specs.Record.{Module}
 use Rattle.zw_def_world.specs.World.{World}
 use Rattle.zw_def_world.specs.BootTable.{Constant, absent, named_module, other_value, if_named, constant_from, constant_of, from_module, standing_as, standing_from, standing_of}
 use Rattle.zw_def_world.specs.Setup.{is_told, paths_in}
-use Rattle.zw_fresh.specs.Reached.{TablesTold}
-use Rattle.zw_fresh.specs.Held.{IsThere, TablesHold}
+use Rattle.zw_fresh.specs.Alike.{IsThere}
+
+-- each module that the table holds is there
+abbrev pub HoldsThere : (Id → Option Module) → Table Value → Type 0
+HoldsThere modules table = (n : Text) (v : Value) (j : Id) → at n table ≡ Some v → as_module v ≡ Some j → IsThere (modules j)
+
+-- Object is there, and so is each module that a constant holds
+pub record TablesHold (w : World) : Type 0 where
+  pub object : IsThere (w.modules Object_class)
+  pub constants : (i : Id) (m : Module) → w.modules i ≡ Some m → HoldsThere w.modules m.constants
+
+-- boot's tables have the records that a setup over the tree reads
+abbrev pub TablesTold : World → Tree → Type 0
+TablesTold image tree = (told : Bool) × (is_told image (paths_in image.setting.layout tree) ≡ Some told)
 
 -- a constant is told, and where it is a module of that very name, that is there
 abbrev IsSound : World → Option Constant → Type 0
@@ -25,14 +37,6 @@ IsSound w None = ⊥
 IsSound w (Some absent) = Unit {0}
 IsSound w (Some (named_module j)) = IsThere (w.modules j)
 IsSound w (Some other_value) = Unit {0}
-
-mapped_there : {A B : Type 0} (g : A → B) (o : Option A) → IsThere o → IsThere (option_map g o)
-mapped_there g None h = absurd h
-mapped_there g (Some x) h = tt
-
-map_there : {A B : Type 0} (g : A → B) (o : Option A) → IsThere o → (x : A) × (option_map g o ≡ Some (g x))
-map_there g None h = absurd h
-map_there g (Some x) h = (x, refl)
 
 module _ (w : World) (W : TablesHold w) where
   named_sound : (p : ConstantPath) (j : Id) (o : Option Module) → w.modules j ≡ o → IsThere o

@@ -1,5 +1,5 @@
 -- The methods of Kernel keep points alike, where no key is stated.
-use Rattle.std.specs.Prelude.{◌≡◌, ℕ, Bool, true, false, not, ◌&&◌, List, [], ◌∷◌, ◌++◌, codes, drop, Option, Some, None}
+use Rattle.std.specs.Prelude.{◌≡◌, Bool, true, false, not, ◌&&◌, List, [], ◌∷◌, ◌++◌, codes, drop, Option, Some, None}
 use Rattle.std.specs.Option.{option_map}
 use Rattle.std.proofs.Common.{refl, sym, subst}
 use Rattle.std.proofs.lemmas.List.{drop-map}
@@ -21,10 +21,10 @@ use Rattle.zw_def_world.proofs.EvolutionLaws.{if_keeps, gives_keeps, ends_keeps,
 use Rattle.zw_def_world.proofs.FaultLaws.{makes_text_keeps}
 use Rattle.zw_def_world.proofs.RowLaws.{yes_or_no_keeps}
 use Rattle.zw_def_world.proofs.KernelLaws.{puts_text_keeps, no_exception_keeps, raises_value_keeps, raises_new_keeps}
-use Rattle.zw_fresh.specs.Renaming.{lifted, ren, ren_found}
+use Rattle.zw_fresh.specs.Renaming.{Names, lifted, lifted_object, ren, ren_found}
 use Rattle.zw_fresh.specs.Alike.{Setting, Found, Worlds}
 use Rattle.zw_fresh.proofs.ActLaws.{Spends, Alike, ends_alike, gives_alike, both_alike, on_alike, if_alike, reading_alike, writes_alike}
-use Rattle.zw_fresh.proofs.FoundLaws.{id_same, found_map, module_bind}
+use Rattle.zw_fresh.proofs.FoundLaws.{found_map, module_bind}
 use Rattle.zw_fresh.proofs.AncestorLaws.{class_of_found, makes_exceptions_found}
 use Rattle.zw_fresh.proofs.TextLaws.{as_it_is, is_exception_found, inspected_found, built_in_found, is_frozen_found}
 use Rattle.zw_fresh.proofs.MethodLaws.{method_found, is_kind_found}
@@ -56,7 +56,7 @@ module _ {calm : Bool} {S : Setting calm} {old : Text → Bool} where
   on_module_row k k' b (module_at i) = b i
   on_module_row k k' b (object_at i) = ends_alike lost
 
-  pub on_object_row : (k k' : Id → Act) → ((i : Id) → Alike S old (k i) (k' (lifted S.lift i))) → (v : Value)
+  pub on_object_row : (k k' : Id → Act) → ((i : Id) → Alike S old (k i) (k' (lifted_object S.lift i))) → (v : Value)
       → Alike S old (on_object v k) (on_object (ren S.lift v) k')
   on_object_row k k' b nil = ends_alike lost
   on_object_row k k' b (truth bit) = ends_alike lost
@@ -94,13 +94,13 @@ module _ {calm : Bool} {S : Setting calm} {old : Text → Bool} where
   -- ---- raise
 
   no_exception_alike : Alike S old no_exception no_exception
-  no_exception_alike = fails_alike 22 (codes "exception class/object expected")
+  no_exception_alike = fails_alike 22 refl (codes "exception class/object expected")
 
-  raises_object_alike : (i : Id) → Alike S old (raises_object i) (raises_object (lifted S.lift i))
+  raises_object_alike : (i : Id) → Alike S old (raises_object i) (raises_object (lifted_object S.lift i))
   raises_object_alike i = in_object_alike i _ _
       (λ o. reading_alike (λ w w' W. is_exception_found W o) (λ b. if_alike b (ends_alike (raised i)) no_exception_alike)
-      (λ b. if_keeps b (ends_keeps (raised (lifted S.lift i))) no_exception_keeps))
-      (λ o. reading_keeps (λ w. is_exception w o) (λ b. if_keeps b (ends_keeps (raised (lifted S.lift i))) no_exception_keeps))
+      (λ b. if_keeps b (ends_keeps (raised (lifted_object S.lift i))) no_exception_keeps))
+      (λ o. reading_keeps (λ w. is_exception w o) (λ b. if_keeps b (ends_keeps (raised (lifted_object S.lift i))) no_exception_keeps))
 
   raises_value_alike : (v : Value) → Alike S old (raises_value v) (raises_value (ren S.lift v))
   raises_value_alike nil = no_exception_alike
@@ -120,7 +120,7 @@ module _ {calm : Bool} {S : Setting calm} {old : Text → Bool} where
   raises_of_alike : {call : Call} → CallAlike S old call → ((r : Value) (x : Text) (vs : List Value) → Spends (call r x vs))
       → (more : List Value) (v : Value)
       → Alike S old (raises_of call more v) (raises_of call (ren_list S.lift more) (ren S.lift v))
-  raises_of_alike c l more (text t) = fails_alike 21 t
+  raises_of_alike c l more (text t) = fails_alike 21 refl t
   raises_of_alike c l more (module_at i) = reading_alike (λ w w' W. exception_class_found W i)
       (raises_new_alike c more (module_at i)) (raises_new_keeps l (ren_list S.lift more) (module_at (lifted S.lift i)))
   raises_of_alike c l more nil = raises_value_alike nil
@@ -130,7 +130,7 @@ module _ {calm : Bool} {S : Setting calm} {old : Text → Bool} where
   raises_of_alike c l more (array vs) = raises_value_alike (array vs)
   raises_of_alike c l more (object_at i) = raises_value_alike (object_at i)
 
-pub is_public_same : (f : ℕ → ℕ) (o : Option FoundMethod) → is_public (option_map (ren_found f) o) ≡ is_public o
+pub is_public_same : (f : Names) (o : Option FoundMethod) → is_public (option_map (ren_found f) o) ≡ is_public o
 is_public_same f None = refl
 is_public_same f (Some m) = refl
 
@@ -196,7 +196,7 @@ module _ {S : Setting false} {old : Text → Bool} where
     instance_of_alike r vs = by_first (λ v. on_module v (λ i. reading (λ w. class_of w r) (λ class. yes_or_no (id_eq class i))))
         (λ v. on_module v (λ i. reading (λ w. class_of w (ren S.lift r)) (λ class. yes_or_no (id_eq class i))))
         (on_module_row _ _ (λ i. reading_alike (λ w w' W. class_of_found W r)
-        (λ j. subst (λ b. Alike S old (yes_or_no (id_eq j i)) (yes_or_no b)) (sym (id_same S j i)) (yes_or_no_alike (id_eq j i)))
+        (λ j. subst (λ b. Alike S old (yes_or_no (id_eq j i)) (yes_or_no b)) (sym (S.apart j i)) (yes_or_no_alike (id_eq j i)))
         (λ j. yes_or_no_keeps (id_eq j (lifted S.lift i))))) vs
 
     responds_alike : (r : Value) (vs : List Value)

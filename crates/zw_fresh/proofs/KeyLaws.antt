@@ -16,10 +16,11 @@ use Rattle.zw_def_world.specs.LookUp.{if_idle, loadable}
 use Rattle.zw_def_world.specs.Act.{Act, gave, changing, changing_module, in_module}
 use Rattle.zw_def_world.proofs.EvolutionLaws.{in_module_keeps}
 use Rattle.zw_fresh.specs.Renaming.{lifted, ren, ren_table, ren_module, ren_load}
-use Rattle.zw_fresh.specs.Alike.{Setting, Met, Worlds, Ends}
+use Rattle.zw_fresh.specs.Alike.{NoneLost, Setting, Met, Worlds, Ends}
+use Rattle.zw_fresh.proofs.GrowingLaws.{changed_there}
 use Rattle.zw_fresh.proofs.ActLaws.{Spends, Alike, ends_at}
 use Rattle.zw_fresh.proofs.TableLemmas.{assigned-made}
-use Rattle.zw_fresh.proofs.WorldLaws.{fresh_same, counts_same, changed_met, made_met, met_changed}
+use Rattle.zw_fresh.proofs.WorldLaws.{counts_same, changed_met, made_met, met_changed}
 use Rattle.zw_fresh.proofs.ChangeLaws.{read_met}
 
 -- ---- two worlds, where no key is stated
@@ -86,7 +87,7 @@ module _ {S : Setting false} {w w' : World} (W : Worlds false S w w') where
     setting = W.setting;
     states = W.states;
     order = W.order;
-    modules = changed_met S (λ m m'. m' ≡ ren_module S.lift m) i g g' w.modules w'.modules (λ x y e. ap g' e ∙ f x) W.modules;
+    modules = changed_met false S.lift.of_module S.apart (λ m m'. m' ≡ ren_module S.lift m) i g g' w.modules w'.modules (λ x y e. ap g' e ∙ f x) W.modules;
     objects = W.objects;
     due = tt;
   }
@@ -108,10 +109,10 @@ module _ {S : Setting false} {w w' : World} (W : Worlds false S w w') where
     due = tt;
   }
 
-  counted_module_same : (made : Module)
+  counted_module_same : (made : Module) → fresh w' ≡ lifted S.lift (fresh w)
       → Worlds false S (record (counted w) { modules = with_record (fresh w) made w.modules })
       (record (counted w') { modules = with_record (fresh w') (ren_module S.lift made) w'.modules })
-  counted_module_same made = record {
+  counted_module_same made named = record {
     setups = W.setups;
     loads = W.loads;
     calm_loads = tt;
@@ -124,7 +125,7 @@ module _ {S : Setting false} {w w' : World} (W : Worlds false S w w') where
     modules = λ j. subst
         (λ i. Met false (λ m m'. m' ≡ ren_module S.lift m) (with_record (fresh w) made w.modules j)
         (with_record i (ren_module S.lift made) w'.modules (lifted S.lift j)))
-        (sym (fresh_same W)) (made_met S (λ m m'. m' ≡ ren_module S.lift m) (fresh w) made (ren_module S.lift made) w.modules w'.modules refl W.modules j);
+        (sym named) (made_met false S.lift.of_module S.apart (λ m m'. m' ≡ ren_module S.lift m) (fresh w) made (ren_module S.lift made) w.modules w'.modules refl W.modules j);
     objects = W.objects;
     due = tt;
   }
@@ -192,20 +193,20 @@ module _ {S : Setting false} {w w' : World} (W : Worlds false S w w') where
       (ap (λ l. l ++ record { key = q; parent = lifted S.lift i } ∷ []) W.order
       ∙ sym (map-append (ren_load S.lift) w.load_order (record { key = q; parent = i } ∷ [])))
 
-  pub with_module_same : (i : Id) (n : Text) (made : Module)
+  pub with_module_same : (i : Id) (n : Text) (made : Module) → fresh w' ≡ lifted S.lift (fresh w)
       → Worlds false S (with_module i n made w) (with_module (lifted S.lift i) n (ren_module S.lift made) w')
-  with_module_same i n made = module_same (counted_module_same W made) i
+  with_module_same i n made named = module_same (counted_module_same W made named) i
       (with_constant n (module_at (fresh w))) (with_constant n (module_at (fresh w'))) (λ m.
       ap (λ t. record (ren_module S.lift m) { constants = t })
-      (ap (λ j. assigned n (module_at j) (ren_table S.lift m.constants)) (fresh_same W)
+      (ap (λ j. assigned n (module_at j) (ren_table S.lift m.constants)) named
       ∙ assigned-made (ren S.lift) n (module_at (fresh w)) m.constants))
 
 -- ---- acts
 
 module _ {S : Setting false} {old : Text → Bool} where
   pub changes_alike : (g g' : World → World) → ((w w' : World) → Worlds false S w w' → Worlds false S (g w) (g' w'))
-      → (v : Value) → Alike S old (changing g v) (changing g' (ren S.lift v))
-  changes_alike g g' same v = record {
+      → ((w : World) → NoneLost w (g w)) → (v : Value) → Alike S old (changing g v) (changing g' (ren S.lift v))
+  changes_alike g g' same stays v = record {
     acts = λ p p' P. ends_at false S old (gave v) (record p { world = g p.world }) (record p' { world = g' p'.world })
         (record {
           world = same p.world p'.world P.world;
@@ -213,6 +214,7 @@ module _ {S : Setting false} {old : Text → Bool} where
           left = ap (λ n. p'.left + n) (S.exact refl (g p.world).states ∙ sym (S.exact refl p.world.states)) ∙ P.left;
           out = P.out;
         });
+    grows = record { kept = λ p. stays p.world };
     spends = record { kept = λ p. le_refl p.left };
   }
 
@@ -224,6 +226,7 @@ module _ {S : Setting false} {old : Text → Bool} where
     acts = λ p p' P. read_met false S old (λ m m'. m' ≡ ren_module S.lift m) k k' p p' P (p.world.modules i)
         (p'.world.modules (lifted S.lift i)) (λ m m' e.
         subst (λ z. Ends false S old (k m p) (k' z p')) (sym e) ((b m).acts p p' P)) (P.world.modules i);
+    grows = in_module_keeps i (λ m. (b m).grows);
     spends = in_module_keeps (lifted S.lift i) l;
   }
 
@@ -231,5 +234,6 @@ module _ {S : Setting false} {old : Text → Bool} where
       → ((m : Module) → g' (ren_module S.lift m) ≡ ren_module S.lift (g m)) → (v : Value)
       → Alike S old (changing_module i g v) (changing_module (lifted S.lift i) g' (ren S.lift v))
   changing_module_alike i g g' f v = in_record_alike i _ _
-      (λ m. changes_alike (at_module i g) (at_module (lifted S.lift i) g') (λ w w' W. module_same W i g g' f) v)
+      (λ m. changes_alike (at_module i g) (at_module (lifted S.lift i) g') (λ w w' W. module_same W i g g' f)
+      (λ w. changed_there i g w.modules) v)
       (λ m. record { kept = λ p. le_refl p.left })

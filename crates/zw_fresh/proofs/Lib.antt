@@ -1,6 +1,7 @@
 pub mod NameLemmas
 pub mod SetupLaws
 pub mod TableLemmas
+pub mod GrowingLaws
 pub mod ActLaws
 pub mod FoundLaws
 pub mod AncestorLaws
@@ -29,6 +30,9 @@ pub mod EvaluationLaws
 pub mod SessionLaws
 pub mod FreshLaws
 pub mod BootLaws
+pub mod CoreLaws
+pub mod HeldLaws
+pub mod BootHeldLaws
 pub mod BootTableLaws
 pub mod SettingUpLaws
 pub mod ReloadLaws
@@ -38,7 +42,8 @@ pub mod TreeCommandLaws
 pub mod UnloadingLaws
 pub mod RemountLaws
 pub mod CheckLaws
-pub mod LawLaws
+pub mod ImageLaws
+pub mod NamedLaws
 pub mod InstanceLaws
 pub mod OnwardLaws
 pub mod AnswerLaws
@@ -46,9 +51,6 @@ pub mod EveryLaws
 pub mod ReachLaws
 pub mod PlaceLaws
 pub mod AgainLaws
-pub mod BootHeldLaws
-pub mod OpeningInstance
 pub mod StreamLaws
-pub mod HeldLaws
-pub mod CoreTableLaws
+pub mod OpeningInstance
 pub mod NamingLaws

@@ -23,7 +23,7 @@ use Rattle.zw_fresh.specs.Renaming.{lifted, lifted_all, ren, ren_table, ren_modu
 use Rattle.zw_fresh.specs.Alike.{Setting, Found, Worlds}
 use Rattle.zw_fresh.proofs.ActLaws.{Spends, Alike, gives_alike, both_alike, in_world_alike, in_frame_alike, reading_alike}
 use Rattle.zw_fresh.proofs.TableLemmas.{at-made}
-use Rattle.zw_fresh.proofs.FoundLaws.{boot_stays, boot_same, boot_same_back, found_map, module_bind}
+use Rattle.zw_fresh.proofs.FoundLaws.{core_same, core_same_back, found_map, module_bind}
 use Rattle.zw_fresh.proofs.AncestorLaws.{ancestors_found}
 use Rattle.zw_fresh.proofs.TextLaws.{as_it_is}
 use Rattle.zw_fresh.proofs.ChangeLaws.{meeting_alike}
@@ -50,20 +50,20 @@ module _ {calm : Bool} (S : Setting calm) where
 
   last_same : (b : Bool) → (if b then [] else Object_class ∷ []) ≡ lifted_all S.lift (if b then [] else Object_class ∷ [])
   last_same true = refl
-  last_same false = ap (λ i. i ∷ []) (sym (boot_stays S 0))
+  last_same false = ap (λ i. i ∷ []) (sym (S.core_stays 0 refl))
 
   not_object_same : (i : Id) → is_other_than Object_class (lifted S.lift i) ≡ is_other_than Object_class i
-  not_object_same i = ap not (boot_same_back S i 0)
+  not_object_same i = ap not (core_same_back S i 0 refl)
 
   below_same : (i : Id) → (is_other_than Object_class (lifted S.lift i) && is_other_than Kernel (lifted S.lift i))
       ≡ (is_other_than Object_class i && is_other_than Kernel i)
-  below_same i = λ k. not_object_same i k && not (boot_same_back S i 1 k)
+  below_same i = λ k. not_object_same i k && not (core_same_back S i 1 refl k)
 
   scoped_same : (i : Id) (line : List Id)
       → (if id_eq (lifted S.lift i) Object_class then lifted_all S.lift line else below_object (lifted_all S.lift line))
       ≡ lifted_all S.lift (if id_eq i Object_class then line else below_object line)
   scoped_same i line =
-      (λ k. if boot_same S i 0 k then lifted_all S.lift line
+      (λ k. if core_same S i 0 refl k then lifted_all S.lift line
       else kept_lifted (λ i. is_other_than Object_class i && is_other_than Kernel i)
       (λ i. is_other_than Object_class i && is_other_than Kernel i) below_same line k) ∙ one (id_eq i Object_class)
     where
@@ -76,7 +76,7 @@ module _ {calm : Bool} {S : Setting calm} {w w' : World} (W : Worlds calm S w w'
   pub unscoped_found : (is : List Id)
       → Found calm (lifted_all S.lift) (unscoped_modules w is) (unscoped_modules w' (lifted_all S.lift is))
   unscoped_found [] = subst (λ i. Found calm (lifted_all S.lift) (ancestors w Object_class) (ancestors w' i))
-      (boot_stays S 0) (ancestors_found W Object_class)
+      (S.core_stays 0 refl) (ancestors_found W Object_class)
   unscoped_found (i ∷ is) = module_bind W
       (λ m. option_map (λ line. filter (is_other_than Object_class) (i ∷ is) ++ line ++ asked_last m) (ancestors w i))
       (λ m. option_map (λ line. filter (is_other_than Object_class) (lifted_all S.lift (i ∷ is)) ++ line ++ asked_last m)
@@ -150,4 +150,4 @@ module _ {S : Setting false} {go : Node → Act} (E : Evaluates S go) {old : Tex
 
   pub top_alike : (n : Text) → Alike S old (resolves go n Object_class top_modules) (resolves go n Object_class top_modules)
   top_alike n = subst (λ j. Alike S old (resolves go n Object_class top_modules) (resolves go n j (j ∷ [])))
-      (boot_stays S 0) (resolves_alike n Object_class top_modules)
+      (S.core_stays 0 refl) (resolves_alike n Object_class top_modules)

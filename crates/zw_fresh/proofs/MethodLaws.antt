@@ -18,7 +18,7 @@ use Rattle.zw_def_world.specs.Frame.{Running}
 use Rattle.zw_def_world.specs.Call.{running_at, line_behind, next_in, next_method}
 use Rattle.zw_fresh.specs.Renaming.{lifted, lifted_all, ren, ren_method, ren_methods, ren_place, ren_places, ren_found, ren_running}
 use Rattle.zw_fresh.specs.Alike.{Setting, Found, Worlds}
-use Rattle.zw_fresh.proofs.FoundLaws.{some_found, found_bind, found_map, found_if, joined_found, id_same, boot_stays, module_bind, module_map}
+use Rattle.zw_fresh.proofs.FoundLaws.{some_found, found_bind, found_map, found_if, joined_found, module_bind, module_map}
 use Rattle.zw_fresh.proofs.AncestorLaws.{among_lifted, ancestors_found, superclasses_found, class_of_found}
 use Rattle.zw_fresh.proofs.TableLemmas.{at-made}
 use Rattle.zw_fresh.proofs.TextLaws.{as_it_is}
@@ -31,10 +31,10 @@ module _ {calm : Bool} (S : Setting calm) where
   instances_lifted (i ∷ is) = ap (λ l. of_instances (lifted S.lift i) ∷ l) (instances_lifted is)
 
   pub same_place_same : (p q : Place) → same_place (ren_place S.lift p) (ren_place S.lift q) ≡ same_place p q
-  same_place_same p q = ap (λ b. if bool_eq p.is_singleton q.is_singleton then b else false) (id_same S p.owner q.owner)
+  same_place_same p q = ap (λ b. if bool_eq p.is_singleton q.is_singleton then b else false) (S.apart p.owner q.owner)
 
   class_place : of_instances Class ≡ ren_place S.lift (of_instances Class)
-  class_place = ap of_instances (sym (boot_stays S 3))
+  class_place = ap of_instances (sym (S.core_stays 3 refl))
 
   pub is_asked_same : (b : Bool) (p : Place) → is_asked b (ren_place S.lift p) ≡ is_asked b p
   is_asked_same true p =
@@ -58,9 +58,9 @@ module _ {calm : Bool} (S : Setting calm) where
 
   without_new_stays : classes_without_new ≡ lifted_all S.lift classes_without_new
   without_new_stays = λ k.
-      sym (boot_stays S 2) k ∷ sym (boot_stays S 3) k ∷ sym (boot_stays S 4) k ∷ sym (boot_stays S 5) k ∷
-      sym (boot_stays S 6) k ∷ sym (boot_stays S 7) k ∷ sym (boot_stays S 8) k ∷ sym (boot_stays S 9) k ∷
-      sym (boot_stays S 10) k ∷ []
+      sym (S.core_stays 2 refl) k ∷ sym (S.core_stays 3 refl) k ∷ sym (S.core_stays 4 refl) k ∷ sym (S.core_stays 5 refl) k ∷
+      sym (S.core_stays 6 refl) k ∷ sym (S.core_stays 7 refl) k ∷ sym (S.core_stays 8 refl) k ∷ sym (S.core_stays 9 refl) k ∷
+      sym (S.core_stays 10 refl) k ∷ []
 
   pub lacks_same : (line : List Id)
       → list_any (is_among (lifted_all S.lift line)) classes_without_new ≡ list_any (is_among line) classes_without_new
@@ -70,7 +70,7 @@ module _ {calm : Bool} (S : Setting calm) where
   pub tables_same : (i : Id) (line : List Place)
       → list_any (is_table_of (lifted S.lift i)) (ren_places S.lift line) ≡ list_any (is_table_of i) line
   tables_same i [] = refl
-  tables_same i (p ∷ line) = λ k. (not p.is_singleton && id_same S p.owner i k) || tables_same i line k
+  tables_same i (p ∷ line) = λ k. (not p.is_singleton && S.apart p.owner i k) || tables_same i line k
 
   -- ---- a running method, and the line behind it
 
@@ -130,15 +130,15 @@ module _ {calm : Bool} {S : Setting calm} {w w' : World} (W : Worlds calm S w w'
   class_line_found : (i : Id) → Found calm (ren_places S.lift) (class_line w i) (class_line w' (lifted S.lift i))
   class_line_found i =
       found_map _ _ (found_bind _ _ (superclasses_found W i) (λ is. joined_found _ _ own_line_found is)) (λ line.
-      (λ k. ren_places S.lift line ++ of_instances (sym (boot_stays S 3) k) ∷ of_instances (sym (boot_stays S 2) k) ∷
-      of_instances (sym (boot_stays S 0) k) ∷ of_instances (sym (boot_stays S 1) k) ∷ [])
+      (λ k. ren_places S.lift line ++ of_instances (sym (S.core_stays 3 refl) k) ∷ of_instances (sym (S.core_stays 2 refl) k) ∷
+      of_instances (sym (S.core_stays 0 refl) k) ∷ of_instances (sym (S.core_stays 1 refl) k) ∷ [])
       ∙ sym (map-append (ren_place S.lift) line (instances (Class ∷ Module_class ∷ Object_class ∷ Kernel ∷ []))))
 
   module_line_found : (i : Id) → Found calm (ren_places S.lift) (module_line w i) (module_line w' (lifted S.lift i))
   module_line_found i =
       found_map _ _ (own_line_found i) (λ line.
-      (λ k. ren_places S.lift line ++ of_instances (sym (boot_stays S 2) k) ∷
-      of_instances (sym (boot_stays S 0) k) ∷ of_instances (sym (boot_stays S 1) k) ∷ [])
+      (λ k. ren_places S.lift line ++ of_instances (sym (S.core_stays 2 refl) k) ∷
+      of_instances (sym (S.core_stays 0 refl) k) ∷ of_instances (sym (S.core_stays 1 refl) k) ∷ [])
       ∙ sym (map-append (ren_place S.lift) line (instances (Module_class ∷ Object_class ∷ Kernel ∷ []))))
 
   instances_found : (i : Id) → Found calm (ren_places S.lift) (option_map instances (ancestors w i))

@@ -1,5 +1,5 @@
 -- What the methods of Module ask of modules, and their changes, in two worlds alike.
-use Rattle.std.specs.Prelude.{◌≡◌, ℕ, Bool, true, false, not, ◌&&◌, ◌||◌, List, [], ◌∷◌, is_some, Option, Some, None, if◌then◌else◌}
+use Rattle.std.specs.Prelude.{◌≡◌, Bool, true, false, not, ◌&&◌, ◌||◌, List, [], ◌∷◌, is_some, Option, Some, None, if◌then◌else◌}
 use Rattle.std.specs.Option.{option_map, option_map_or}
 use Rattle.std.proofs.Common.{refl, sym, ap, ◌∙◌, subst}
 use Rattle.zw_def.specs.Text.{Text}
@@ -12,10 +12,10 @@ use Rattle.zw_def_world.specs.Ancestor.{ancestors, is_among}
 use Rattle.zw_def_world.specs.MethodLine.{first_method, instances}
 use Rattle.zw_def_world.specs.KernelRows.{is_public}
 use Rattle.zw_def_world.specs.ModuleRows.{modules_of, order, order_of, order_or_same, with_include, with_extension, includes_back, is_included, hidden_in, is_defined_in, is_defined_at, is_defined, has_public_instance}
-use Rattle.zw_fresh.specs.Renaming.{lifted, lifted_all, ren, ren_method, ren_methods, ren_module}
+use Rattle.zw_fresh.specs.Renaming.{Names, lifted, lifted_all, ren, ren_method, ren_methods, ren_module}
 use Rattle.zw_fresh.specs.Alike.{Setting, Found, Worlds}
 use Rattle.zw_fresh.proofs.TableLemmas.{assigned-made, at-made, is_some-made}
-use Rattle.zw_fresh.proofs.FoundLaws.{some_found, found_bind, found_map, found_if, met_map, is_some_so_found, module_bind, id_same}
+use Rattle.zw_fresh.proofs.FoundLaws.{some_found, found_bind, found_map, found_if, met_map, is_some_so_found, module_bind}
 use Rattle.zw_fresh.proofs.AncestorLaws.{among_lifted, ancestors_found}
 use Rattle.zw_fresh.proofs.TextLaws.{as_it_is}
 use Rattle.zw_fresh.proofs.MethodLaws.{instances_lifted, first_found}
@@ -26,7 +26,7 @@ use Rattle.zw_fresh.proofs.LookUpLaws.{scoped_found}
 
 -- ---- what is asked of modules
 
-pub modules_same : (f : ℕ → ℕ) (is : List Id) → modules_of (lifted_all f is) ≡ ren_list f (modules_of is)
+pub modules_same : (f : Names) (is : List Id) → modules_of (lifted_all f is) ≡ ren_list f (modules_of is)
 modules_same f [] = refl
 modules_same f (i ∷ is) = ap (λ l. module_at (lifted f i) ∷ l) (modules_same f is)
 
@@ -35,7 +35,7 @@ module _ {calm : Bool} (S : Setting calm) where
       → order (lifted_all S.lift below) (lifted_all S.lift above) (lifted S.lift i) (lifted S.lift j)
       ≡ ren S.lift (order below above i j)
   order_same below above i j =
-      (λ k. if among_lifted S below j k then truth (not (id_same S i j k))
+      (λ k. if among_lifted S below j k then truth (not (S.apart i j k))
       else if among_lifted S above i k then truth false else nil) ∙ one (is_among below j) (is_among above i)
     where
       one : (a b : Bool) → (if a then truth (not (id_eq i j)) else if b then truth false else nil)
@@ -68,7 +68,7 @@ module _ {calm : Bool} (S : Setting calm) where
       one true = refl
       one false = refl
 
-pub hidden_same : (f : ℕ → ℕ) (hidden : Bool) (x : Text) (t : Table Method)
+pub hidden_same : (f : Names) (hidden : Bool) (x : Text) (t : Table Method)
     → hidden_in hidden x (ren_methods f t) ≡ ren_methods f (hidden_in hidden x t)
 hidden_same f hidden x t =
     ap (λ o. option_map_or (λ method. assigned x (record method { is_private = hidden }) (ren_methods f t)) o (ren_methods f t))
@@ -88,7 +88,7 @@ module _ {calm : Bool} {S : Setting calm} {w w' : World} (W : Worlds calm S w w'
 
   pub order_or_found : (i j : Id)
       → Found calm (ren S.lift) (order_or_same w i j) (order_or_same w' (lifted S.lift i) (lifted S.lift j))
-  order_or_found i j = found_if (id_same S i j) (some_found (truth true) refl) (order_found i j)
+  order_or_found i j = found_if (S.apart i j) (some_found (truth true) refl) (order_found i j)
 
   pub back_found : (i j : Id)
       → Found calm as_it_is (includes_back w i j) (includes_back w' (lifted S.lift i) (lifted S.lift j))
@@ -100,7 +100,7 @@ module _ {calm : Bool} {S : Setting calm} {w w' : World} (W : Worlds calm S w w'
       (λ m. option_map (λ line. not (id_eq i j) && not m.is_class && is_among line j) (ancestors w i))
       (λ m. option_map (λ line. not (id_eq (lifted S.lift i) (lifted S.lift j)) && not m.is_class && is_among line (lifted S.lift j))
       (ancestors w' (lifted S.lift i))) j (λ m c. found_map _ _ (ancestors_found W i)
-      (λ line k. not (id_same S i j k) && not m.is_class && among_lifted S line j k))
+      (λ line k. not (S.apart i j k) && not m.is_class && among_lifted S line j k))
 
   pub public_found : (i : Id) (x : Text)
       → Found calm as_it_is (has_public_instance w i x) (has_public_instance w' (lifted S.lift i) x)

@@ -63,12 +63,12 @@ module _ {S : Setting false} {old : Text → Bool} where
   unless_class_alike : (i : Id) {m m' : Act} → Alike S old m m'
       → Alike S old (unless_class i m) (unless_class (lifted S.lift i) m')
   unless_class_alike i a = in_record_alike i _ _
-      (λ m. if_alike m.is_class (fails_alike 22 (codes "wrong argument type Class (expected module)")) a)
+      (λ m. if_alike m.is_class (fails_alike 22 refl (codes "wrong argument type Class (expected module)")) a)
       (λ m. if_keeps m.is_class class_fault_keeps a.spends)
 
   includes_alike : (i j : Id) → Alike S old (includes i j) (includes (lifted S.lift i) (lifted S.lift j))
   includes_alike i j = reading_alike (λ w w' W. back_found W j i)
-      (λ b. if_alike b (fails_alike 17 (codes "cyclic include detected"))
+      (λ b. if_alike b (fails_alike 17 refl (codes "cyclic include detected"))
       (changing_module_alike i (with_include j) (with_include (lifted S.lift j)) (include_same S j) (module_at i)))
       (λ b. if_keeps b (fails_keeps _ (codes "cyclic include detected"))
       (module_keeps (lifted S.lift i) (with_include (lifted S.lift j)) (module_at (lifted S.lift i))))
@@ -206,7 +206,7 @@ module _ {S : Setting false} {old : Text → Bool} where
       by_first (λ v. gets s r (text_in v)) (λ v. gets s (ren S.lift r) (text_in v)) (λ v.
       subst (λ n. Alike S old (gets s r (text_in v)) (gets s (ren S.lift r) n)) (sym (text_same S.lift v))
       (if_alike (is_constant (text_in v)) (on_module_row (s.constant (text_in v)) (s.constant (text_in v)) (of_s.constant (text_in v)) r)
-      (fails_alike 19 (codes "wrong constant name " ++ text_in v)))) vs
+      (fails_alike 19 refl (codes "wrong constant name " ++ text_in v)))) vs
     where
       gets : Site → Value → Text → Act
       gets s r n = if is_constant n then on_module r (s.constant n) else fails NameError (codes "wrong constant name " ++ n)

@@ -17,7 +17,7 @@ use Rattle.zw_def_world.specs.StringRows.{repeated, times, text_compared, name_c
 use Rattle.zw_def_world.specs.Act.{Act, gives}
 use Rattle.zw_def_world.proofs.FaultLaws.{makes_array_keeps}
 use Rattle.zw_def_world.proofs.TextLaws.{makes_pieces_keeps}
-use Rattle.zw_fresh.specs.Renaming.{ren}
+use Rattle.zw_fresh.specs.Renaming.{Names, ren}
 use Rattle.zw_fresh.specs.Alike.{Setting}
 use Rattle.zw_fresh.proofs.ActLaws.{Alike, gives_alike, on_alike, if_alike}
 use Rattle.zw_fresh.proofs.FaultLaws.{ren_list, fails_alike, too_long_alike, makes_text_alike, makes_integer_alike, makes_array_alike}
@@ -26,7 +26,7 @@ use Rattle.zw_fresh.proofs.SiteLaws.{yes_or_no_alike}
 
 -- ---- what rows read of their arguments
 
-compared_same : (f : ℕ → ℕ) (z : ℤ) (v : Value) → compared z (ren f v) ≡ ren f (compared z v)
+compared_same : (f : Names) (z : ℤ) (v : Value) → compared z (ren f v) ≡ ren f (compared z v)
 compared_same f z nil = refl
 compared_same f z (truth b) = refl
 compared_same f z (int y) = refl
@@ -36,7 +36,7 @@ compared_same f z (array vs) = refl
 compared_same f z (module_at i) = refl
 compared_same f z (object_at i) = refl
 
-text_compared_same : (f : ℕ → ℕ) (s : Text) (v : Value) → text_compared s (ren f v) ≡ ren f (text_compared s v)
+text_compared_same : (f : Names) (s : Text) (v : Value) → text_compared s (ren f v) ≡ ren f (text_compared s v)
 text_compared_same f s nil = refl
 text_compared_same f s (truth b) = refl
 text_compared_same f s (int y) = refl
@@ -46,7 +46,7 @@ text_compared_same f s (array vs) = refl
 text_compared_same f s (module_at i) = refl
 text_compared_same f s (object_at i) = refl
 
-name_compared_same : (f : ℕ → ℕ) (s : Text) (v : Value) → name_compared s (ren f v) ≡ ren f (name_compared s v)
+name_compared_same : (f : Names) (s : Text) (v : Value) → name_compared s (ren f v) ≡ ren f (name_compared s v)
 name_compared_same f s nil = refl
 name_compared_same f s (truth b) = refl
 name_compared_same f s (int y) = refl
@@ -81,7 +81,7 @@ module _ {calm : Bool} {S : Setting calm} {old : Text → Bool} where
   -- ---- Integer
 
   if_divides_alike : (z : ℤ) {m m' : Act} → Alike S old m m' → Alike S old (if_divides z m) (if_divides z m')
-  if_divides_alike z a = if_alike (int_eq z (pos 0)) (fails_alike 23 (codes "divided by 0")) a
+  if_divides_alike z a = if_alike (int_eq z (pos 0)) (fails_alike 23 refl (codes "divided by 0")) a
 
   quotients_alike : (a b : ℤ) → Alike S old (makes_quotients a b) (makes_quotients a b)
   quotients_alike a b = on_alike (makes_integer_alike (over a b)) (λ q. makes_array_alike (q ∷ int (rest a b) ∷ []))
@@ -89,7 +89,7 @@ module _ {calm : Bool} {S : Setting calm} {old : Text → Bool} where
 
   clamped_alike : (a b c : ℤ) → Alike S old (clamped a b c) (clamped a b c)
   clamped_alike a b c = if_alike (int_lt c b)
-      (fails_alike 17 (codes "min argument must be less than or equal to max argument")) (gives_alike (int (if int_lt a b then b else if int_lt c a then c else a)))
+      (fails_alike 17 refl (codes "min argument must be less than or equal to max argument")) (gives_alike (int (if int_lt a b then b else if int_lt c a then c else a)))
 
   pub integer_alike : (s : Site) (row : IntegerRow) (r : Value) (vs : List Value)
       → Alike S old (integer_act s row r vs) (integer_act s row (ren S.lift r) (ren_list S.lift vs))
@@ -133,7 +133,7 @@ module _ {calm : Bool} {S : Setting calm} {old : Text → Bool} where
 
   times_alike : (z : ℤ) (t : Text) → Alike S old (times z t) (times z t)
   times_alike (pos n) t = if_alike (nat_lt max_text (n * length t)) too_long_alike (makes_text_alike (repeated n t))
-  times_alike (negsuc n) t = fails_alike 17 (codes "argument must be non-negative")
+  times_alike (negsuc n) t = fails_alike 17 refl (codes "argument must be non-negative")
 
   character_alike : (o : Option ℕ) (cs : List ℕ) → Alike S old (character_at o cs) (character_at o cs)
   character_alike None cs = gives_alike nil
@@ -163,7 +163,7 @@ module _ {calm : Bool} {S : Setting calm} {old : Text → Bool} where
       (λ v. makes_pieces_keeps (ren_list S.lift made ++ v ∷ []) ts)
 
   splits_alike : (t separator : Text) → Alike S old (splits t separator) (splits t separator)
-  splits_alike t separator = if_alike (is_empty separator) (fails_alike 17 (codes "empty separator")) (pieces_alike [] (without_empty_end (cut (suc (length t)) separator [] t)))
+  splits_alike t separator = if_alike (is_empty separator) (fails_alike 17 refl (codes "empty separator")) (pieces_alike [] (without_empty_end (cut (suc (length t)) separator [] t)))
 
   left_alike : (n : ℕ) (t : Text) → Alike S old (justified_left n t) (justified_left n t)
   left_alike n t = if_alike (nat_lt max_text (length t + n)) too_long_alike (makes_text_alike (t ++ repeated n (codes " ")))

@@ -15,11 +15,11 @@ use Rattle.zw_def_world.specs.ObjectRows.{makes_instance, superclass_value, clas
 use Rattle.zw_def_world.specs.Act.{gives, reading}
 use Rattle.zw_def_world.proofs.EvolutionLaws.{gives_keeps, both_keep, made_keeps, reading_keeps}
 use Rattle.zw_def_world.proofs.FaultLaws.{makes_text_keeps}
-use Rattle.zw_fresh.specs.Renaming.{lifted, ren, ren_object}
+use Rattle.zw_fresh.specs.Renaming.{lifted, lifted_object, ren, ren_object}
 use Rattle.zw_fresh.specs.Alike.{Setting}
 use Rattle.zw_fresh.proofs.ActLaws.{Spends, Alike, gives_alike, both_alike, in_world_alike, reading_alike}
 use Rattle.zw_fresh.proofs.TextLaws.{message_found, inspected_found}
-use Rattle.zw_fresh.proofs.WorldLaws.{fresh_same, made_same}
+use Rattle.zw_fresh.proofs.WorldLaws.{fresh_object, made_same}
 use Rattle.zw_fresh.proofs.ChangeLaws.{in_object_alike, changing_alike, changing_object_alike}
 use Rattle.zw_fresh.proofs.FaultLaws.{ren_list, makes_text_alike, unless_frozen_alike}
 use Rattle.zw_fresh.proofs.ValueLaws.{text_same}
@@ -34,9 +34,9 @@ module _ {S : Setting false} {old : Text → Bool} where
   instance_alike : {call : Call} → CallAlike S old call → ((r : Value) (x : Text) (vs : List Value) → Spends (call r x vs))
       → (i : Id) (vs : List Value)
       → Alike S old (makes_instance call i vs) (makes_instance call (lifted S.lift i) (ren_list S.lift vs))
-  instance_alike c l i vs = in_world_alike (lifted S.lift) (λ w w' W. fresh_same W)
+  instance_alike c l i vs = in_world_alike (lifted_object S.lift) (λ w w' W. fresh_object W)
       (λ j. both_alike (changing_alike (with_object (new_object i)) (with_object (new_object (lifted S.lift i)))
-      (λ w w' W. made_same W (new_object i)) (λ w. refl) nil)
+      (λ w w' W. made_same W (new_object i)) (λ w. refl) (λ w j h. h) nil)
       (both_alike (c (object_at j) (codes "initialize") vs) (gives_alike (object_at j))))
       (λ j. both_keep (made_keeps (new_object (lifted S.lift i)) nil)
       (both_keep (l (object_at j) (codes "initialize") (ren_list S.lift vs)) (gives_keeps (object_at j))))
@@ -58,7 +58,7 @@ module _ {S : Setting false} {old : Text → Bool} where
       → Alike S old (object_act s row r vs) (object_act s row (ren S.lift r) (ren_list S.lift vs))
   object_alike s object_initialize r vs = gives_alike nil
 
-  keeps_alike : (vs : List Value) (i : Id) → Alike S old (keeps vs i) (keeps (ren_list S.lift vs) (lifted S.lift i))
+  keeps_alike : (vs : List Value) (i : Id) → Alike S old (keeps vs i) (keeps (ren_list S.lift vs) (lifted_object S.lift i))
   keeps_alike [] i = gives_alike nil
   keeps_alike (t ∷ more) i = changing_object_alike i (with_message (text_in t)) (with_message (text_in (ren S.lift t)))
       (λ o. ap (λ u. with_message u (ren_object S.lift o)) (text_same S.lift t)) nil

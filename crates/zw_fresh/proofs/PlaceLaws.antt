@@ -69,6 +69,6 @@ served_from n m place = ap (λ z. served z place.session place.rest) (sym (more_
 -- ---- the law
 
 pub served_is_fresh : ServedIsFresh
-served_is_fresh words c folder opening e may_reload bytes n commands front T h =
+served_is_fresh words c folder opening e may_reload bytes n commands front h =
     onward_is_fresh words c folder opening (place_after n (first_place opening bytes)).session e may_reload
-    (both_onward (sets_up_within opening).onward (place_onward n (first_place opening bytes))) commands front T h
+    (both_onward (sets_up_within opening).onward (place_onward n (first_place opening bytes))) commands front h

@@ -11,13 +11,11 @@ use Rattle.zw_def.specs.ConstantPath.{constant_path_text}
 use Rattle.zw_def.specs.Layout.{Root}
 use Rattle.zw_def_syntax.specs.Token.{Fault}
 use Rattle.zw_def_syntax.specs.Program.{Parsed, program_of}
-use Rattle.zw_def_world.specs.World.{World, Setting as WorldSetting, all_frozen}
-use Rattle.zw_def_world.specs.Record.{frozen_module, frozen_object}
+use Rattle.zw_def_world.specs.World.{Setting as WorldSetting, all_frozen}
 use Rattle.zw_def_world.specs.Log.{syntax_text, syntax_text_in}
 use Rattle.zw_def_world.specs.Load.{runs}
 use Rattle.zw_def_world.specs.Act.{End}
 use Rattle.zw_def_world.specs.Evaluation.{run}
-use Rattle.zw_def_world.specs.Setup.{is_told, paths_in}
 use Rattle.zw_def_world.specs.Session.{Session, is_value, evaluates, acted, at_end}
 use Rattle.zw_def_world.specs.Reload.{unloaded}
 use Rattle.zw_def_world.proofs.LoadLaws.{runs_keeps}
@@ -27,15 +25,17 @@ use Rattle.zw_def_session.specs.Answers.{answer, max_file, reloads, refuses_relo
 use Rattle.zw_def_session.specs.Opening.{Status, Opened, opens_with, ends_with, Words, Configuration, Refusal, settings_of, first_session, refuses, past_limit, bad_configuration, after_boot, leads, with_namespaces, booted, boots_text, boots_file, boots, opened_over, listed_tree, fixed_paths, opened}
 use Rattle.zw_def_session.specs.Whole.{sets_up}
 use Rattle.zw_fresh.specs.Setups.{Past}
-use Rattle.zw_fresh.specs.Fresh.{fresh_session, older}
+use Rattle.zw_fresh.specs.Fresh.{fresh_session}
 use Rattle.zw_fresh.specs.Law.{CameFrom, answered, WritesAlike}
-use Rattle.zw_fresh.specs.Every.{AllSpare}
-use Rattle.zw_fresh.specs.Reached.{Onward, TablesTold, opened_again, ReachedIsFresh}
-use Rattle.zw_fresh.proofs.SetupLaws.{changed_none, acts_stay_past}
-use Rattle.zw_fresh.proofs.InstanceLaws.{boot_end, boot_came, world_past}
+use Rattle.zw_fresh.specs.Named.{NameNone}
+use Rattle.zw_fresh.specs.Reached.{Onward, opened_again, ReachedIsFresh}
+use Rattle.zw_fresh.proofs.SetupLaws.{acts_stay_past}
+use Rattle.zw_fresh.proofs.BootLaws.{boot_end}
+use Rattle.zw_fresh.proofs.CoreLaws.{world_past}
+use Rattle.zw_fresh.proofs.InstanceLaws.{frozen_past, boot_came}
 use Rattle.zw_fresh.proofs.OnwardLaws.{both_onward, unloaded_within}
 use Rattle.zw_fresh.proofs.AnswerLaws.{sets_up_within, answered_onward}
-use Rattle.zw_fresh.proofs.EveryLaws.{every_is_fresh}
+use Rattle.zw_fresh.proofs.EveryLaws.{reload_is_fresh}
 
 -- ---- openings
 
@@ -117,12 +117,6 @@ module _ (words : Words) (c : Configuration) where
 
 -- ---- worlds that came from an opening
 
-frozen_past : (w : World) → Past w → Past (all_frozen w)
-frozen_past w a = record {
-  modules = λ i h. changed_none frozen_module _ (a.modules i h);
-  objects = λ i h. changed_none frozen_object _ (a.objects i h);
-}
-
 opening_past : (words : Words) (c : Configuration) (s : Session) → Opening words c s → Past s.world
 opening_past words c s O = subst Past (sym (O.world ∙ O.image)) (frozen_past _
     (acts_stay_past (runs (run words.budget 0) O.fault_text O.parsed)
@@ -130,23 +124,21 @@ opening_past words c s O = subst Past (sym (O.world ∙ O.image)) (frozen_past _
 
 -- what goes on from an opening came from its image
 onward_came : (words : Words) (c : Configuration) (opening s : Session) → Opening words c opening → Onward opening s
-    → (tree : Tree) → TablesTold opening.image tree → CameFrom opening.image s.world tree
-onward_came words c opening s O A tree T =
+    → (tree : Tree) → CameFrom opening.image s.world tree
+onward_came words c opening s O A tree =
     subst (λ image. CameFrom image s.world tree) (sym O.image)
-    (boot_came (setting_of words c) words.budget O.fault_text O.parsed s.world tree T.0
-    (A.past (opening_past words c opening O))
-    (A.setting ∙ ap (λ w. w.setting) (O.world ∙ O.image))
-    (subst (λ image. is_told image (paths_in image.setting.layout tree) ≡ Some T.0) O.image T.1))
+    (boot_came (setting_of words c) words.budget O.fault_text O.parsed s.world tree
+    (A.past (opening_past words c opening O)) (A.setting ∙ ap (λ w. w.setting) (O.world ∙ O.image)))
 
 -- so did each session that goes on from it, as its world is unloaded
 pub reached_came : (words : Words) (c : Configuration) (folder : Listing) (opening s : Session)
-    → opened words c folder ≡ opens_with opening → Onward opening s → TablesTold opening.image s.staged
+    → opened words c folder ≡ opens_with opening → Onward opening s
     → CameFrom (unloaded s).image (unloaded s).world (unloaded s).staged
-reached_came words c folder opening s e A T =
+reached_came words c folder opening s e A =
     let far = both_onward A (unloaded_within s).onward in
     subst (λ image. CameFrom image (unloaded s).world (unloaded s).staged) (sym far.image)
     (subst (CameFrom opening.image (unloaded s).world) (sym (unloaded_within s).staged)
-    (onward_came words c opening (unloaded s) (opening_of words c folder opening e) far s.staged T))
+    (onward_came words c opening (unloaded s) (opening_of words c folder opening e) far s.staged))
 
 -- each session that commands reach goes on from the opening
 pub commands_onward : (opening : Session) (commands : List Command) → Onward opening (answered commands (sets_up opening))
@@ -187,13 +179,13 @@ answers_reload words c folder opening s e may_reload A =
 
 pub onward_is_fresh : (words : Words) (c : Configuration) (folder : Listing) (opening s : Session)
     → opened words c folder ≡ opens_with opening → c.reloading ≡ true → Onward opening s → (commands : List Command)
-    (front : Text) → TablesTold opening.image s.staged → AllSpare (older s.variables) commands
+    (front : Text) → NameNone s.variables commands
     → WritesAlike front ((unloaded s).out ++ codes "reloaded" ++ codes "\n")
     (answered commands (sets_up (opened_again opening s.staged front)))
     (answered (reload ∷ commands) s)
-onward_is_fresh words c folder opening s e may_reload A commands front T h =
-    let told = subst (λ variables. AllSpare (older variables) commands) (sym (unloaded_within s).variables) h in
-    let law = every_is_fresh s front commands (reached_came words c folder opening s e A T) told in
+onward_is_fresh words c folder opening s e may_reload A commands front h =
+    let told = subst (λ variables. NameNone variables commands) (sym (unloaded_within s).variables) h in
+    let law = reload_is_fresh s front commands (reached_came words c folder opening s e A) told in
     subst (λ z. WritesAlike front ((unloaded s).out ++ codes "reloaded" ++ codes "\n")
     (answered commands (sets_up (opened_again opening s.staged front))) (answered commands z))
     (sym (answers_reload words c folder opening s e may_reload A))
@@ -202,6 +194,6 @@ onward_is_fresh words c folder opening s e may_reload A commands front T h =
     (begins_again words c folder opening s e A front) law)
 
 pub reached_is_fresh : ReachedIsFresh
-reached_is_fresh words c folder opening e may_reload before commands front T h =
+reached_is_fresh words c folder opening e may_reload before commands front h =
     onward_is_fresh words c folder opening (answered before (sets_up opening)) e may_reload (commands_onward opening before)
-    commands front T h
+    commands front h

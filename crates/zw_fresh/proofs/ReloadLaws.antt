@@ -19,7 +19,7 @@ use Rattle.zw_fresh.specs.Alike.{Worlds}
 use Rattle.zw_fresh.specs.Sessions.{Sessions}
 use Rattle.zw_fresh.specs.Setups.{Past}
 use Rattle.zw_fresh.specs.Fresh.{fresh_session, restored_session, older}
-use Rattle.zw_fresh.proofs.FreshLaws.{fresh_setting, restored_modules, reloaded_alike}
+use Rattle.zw_fresh.proofs.FreshLaws.{fresh_setting, fresh_plain, restored_modules, reloaded_alike}
 use Rattle.zw_fresh.proofs.BootTableLaws.{boot_of_same, is_told_same}
 use Rattle.zw_fresh.proofs.SettingUpLaws.{set_up_same}
 
@@ -76,6 +76,7 @@ set_up_alike image w settings tree variables is_down front front' F =
     = λ k. map_of (F.setting k).layout tree (boot_of_same S image (restored image w) meet k) in
     let mounted' : Sessions S (older variables) (mounted_fresh image settings tree front)
     (mounted_again image w settings tree variables front') = record {
+      plain = fresh_plain w.setups front front';
       world = subst (λ keys. Worlds false S (mounted tree (map_of image.setting.layout tree (boot_of image)) image)
           (mounted tree keys (restored image w))) (sym keys')
           (reloaded_alike image w front front' tree (map_of image.setting.layout tree (boot_of image)) F.first F.none F.self

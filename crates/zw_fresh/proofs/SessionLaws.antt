@@ -19,7 +19,7 @@ use Rattle.zw_fresh.specs.Renaming.{ren_flow}
 use Rattle.zw_fresh.specs.Alike.{Setting, Renamed, Found, Worlds, Frames, Points, Verdict, Short, EndsAlike, Ends}
 use Rattle.zw_fresh.specs.Naming.{ParsedNamesNone}
 use Rattle.zw_fresh.specs.Sessions.{Sessions}
-use Rattle.zw_fresh.proofs.FoundLaws.{boot_stays, object_bind}
+use Rattle.zw_fresh.proofs.FoundLaws.{object_bind}
 use Rattle.zw_fresh.proofs.TextLaws.{as_it_is, inspected_found, fault_line_found}
 use Rattle.zw_fresh.proofs.LoadLaws.{runs_alike}
 use Rattle.zw_fresh.proofs.EvaluationLaws.{run_evaluates}
@@ -33,8 +33,9 @@ found_same {A} {o} {o'} F = at o F.so
     at (Some x) e = e
 
 -- where no key is stated, any two ends are alike
-pub ends_meet : {S : Setting false} {old : Text → Bool} (e e' : End) → Ends false S old e e' → EndsAlike false S old e e'
-ends_meet {S} {old} e e' E = at e.flow E
+pub ends_meet : {S : Setting false} {old : Text → Bool} (e e' : End) → S.within e.at.world → Ends false S old e e'
+    → EndsAlike false S old e e'
+ends_meet {S} {old} e e' inside E = at e.flow (E inside)
   where
     at : (f : Flow) → Verdict false f (Short S.total e') (EndsAlike false S old e e')
         → EndsAlike false S old e e'
@@ -75,6 +76,7 @@ module _ {S : Setting false} {old : Text → Bool} where
   pub with_line_same : (l l' : Text) → l' ≡ l → (s s' : Session) → Sessions S old s s'
       → Sessions S old (with_line l s) (with_line l' s')
   with_line_same l l' e s s' P = record {
+    plain = P.plain;
     world = P.world;
     variables = P.variables;
     staged = P.staged;
@@ -116,7 +118,7 @@ module _ {S : Setting false} {old : Text → Bool} where
 
   console_frames : (s s' : Session) → Sessions S old s s' → Frames S.lift old (console_frame s.variables) (console_frame s'.variables)
   console_frames s s' P = record {
-    self_value = ap object_at (sym (boot_stays S 30));
+    self_value = ap object_at (sym S.main_stays);
     scopes = refl;
     locals = P.variables;
     is_console = refl;
@@ -135,6 +137,7 @@ module _ {S : Setting false} {old : Text → Bool} where
   after_run_same s s' P e e' E =
       with_steps_same _ _ (steps_same s s' P e e' E) _ _
       (with_line_same _ _ (line_of_end_same e e' E) _ _ (record {
+        plain = P.plain;
         world = E.at.world;
         variables = E.at.frame.locals;
         staged = P.staged;
@@ -151,7 +154,7 @@ module _ {S : Setting false} {old : Text → Bool} where
       subst (λ settings. Sessions S old (run_answer text s)
       (after_run s' (runs (run settings.budget 0) syntax_text (program_of [] text) (start (console_frame s'.variables) s'))))
       (sym P.settings)
-      (after_run_same s s' P _ _ (ends_meet _ _
+      (after_run_same s s' P _ _ (ends_meet _ _ (P.plain.all_within _)
       ((runs_alike (run_evaluates S s.settings.budget 0) old syntax_text (program_of [] text) h).acts
       (start (console_frame s.variables) s) (start (console_frame s'.variables) s')
       (start_same _ _ (console_frames s s' P) s s' P))))

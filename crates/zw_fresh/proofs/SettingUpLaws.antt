@@ -1,5 +1,5 @@
 -- Setup, in two sessions alike: both write the same, and stay alike.
-use Rattle.std.specs.Prelude.{◌≡◌, ℕ, ◌+◌, min, Bool, true, false, List, [], ◌∷◌, Option, Some, None, if◌then◌else◌}
+use Rattle.std.specs.Prelude.{◌≡◌, ◌+◌, min, Bool, true, false, List, [], ◌∷◌, Option, Some, None, if◌then◌else◌}
 use Rattle.std.specs.Option.{option_map, option_or}
 use Rattle.std.proofs.Common.{refl, sym, ap, ◌∙◌, subst}
 use Rattle.zw_def.specs.Text.{Text}
@@ -19,7 +19,7 @@ use Rattle.zw_def_world.specs.Act.{Act, End, Flow, gave, raised, broken, skipped
 use Rattle.zw_def_world.specs.Session.{Session, Phase, with_line, with_fault, line_of_end, is_value, evaluates, start, acted, at_end, begin_phase, with_act, end_phase, max_steps}
 use Rattle.zw_def_world.specs.Setup.{leading, setup_namespaces, first_wrong_of, gives_home_to, gives_homes, does, with_callbacks, setup_callbacks, sets_up_or_not, sets_up_in, set_up_mounted}
 use Rattle.zw_def_world.proofs.EvolutionLaws.{gives_keeps, module_keeps}
-use Rattle.zw_fresh.specs.Renaming.{lifted, ren_flow}
+use Rattle.zw_fresh.specs.Renaming.{Names, lifted, ren_flow}
 use Rattle.zw_fresh.specs.Alike.{Setting, Worlds, EndsAlike}
 use Rattle.zw_fresh.specs.Naming.{no_old}
 use Rattle.zw_fresh.specs.Sessions.{Sessions}
@@ -32,7 +32,7 @@ use Rattle.zw_fresh.proofs.EvaluationLaws.{run_evaluates}
 use Rattle.zw_fresh.proofs.SessionLaws.{found_same, ends_meet, line_of_end_same, with_line_same, with_steps_same, start_same, steps_same}
 use Rattle.zw_fresh.proofs.BootTableLaws.{boot_module_found, leading_found}
 
-pub value_same : (f : ℕ → ℕ) (flow : Flow) → is_value (ren_flow f flow) ≡ is_value flow
+pub value_same : (f : Names) (flow : Flow) → is_value (ren_flow f flow) ≡ is_value flow
 value_same f (gave v) = refl
 value_same f (raised i) = refl
 value_same f broken = refl
@@ -82,6 +82,7 @@ module _ {S : Setting false} where
     pub at_end_same : {new : Text → Bool} (e e' : End) → EndsAlike false S new e e' → (s s' : Session) → Sessions S old s s'
         → Sessions S old (at_end e s) (at_end e' s')
     at_end_same e e' E s s' P = record {
+      plain = P.plain;
       world = E.at.world;
       variables = P.variables;
       staged = P.staged;
@@ -104,7 +105,7 @@ module _ {S : Setting false} where
 
     pub acted_same : (m m' : Act) → Alike S no_old m m' → (s s' : Session) → Sessions S old s s'
         → EndsAlike false S no_old (acted m s) (acted m' s')
-    acted_same m m' a s s' P = ends_meet _ _ (a.acts (start (top_frame []) s) (start (top_frame []) s')
+    acted_same m m' a s s' P = ends_meet _ _ (P.plain.all_within _) (a.acts (start (top_frame []) s) (start (top_frame []) s')
         (start_same (top_frame []) (top_frame []) (top_frames S []) s s' P))
 
     pub does_same : (m m' : Act) → Alike S no_old m m' → (s s' : Session) → Sessions S old s s'
@@ -153,6 +154,7 @@ module _ {S : Setting false} where
     down_same : (b : Bool) (s s' : Session) → Sessions S old s s'
         → Sessions S old (record s { is_down = b }) (record s' { is_down = b })
     down_same b s s' P = record {
+      plain = P.plain;
       world = P.world;
       variables = P.variables;
       staged = P.staged;

@@ -10,17 +10,17 @@ use Rattle.zw_def_session.specs.Opening.{Status, done, limit}
 use Rattle.zw_def_session.specs.Whole.{ended, served, served_after, sets_up}
 use Rattle.zw_fresh.specs.Alike.{Setting}
 use Rattle.zw_fresh.specs.Sessions.{Sessions}
-use Rattle.zw_fresh.specs.Fresh.{fresh_session, older}
+use Rattle.zw_fresh.specs.Fresh.{fresh_session}
 use Rattle.zw_fresh.specs.Places.{place_after, first_place}
-use Rattle.zw_fresh.specs.Served.{ReadingSpares, StreamSpares, OutcomesAlike, ReloadServesAsOpening}
+use Rattle.zw_fresh.specs.Served.{OutcomesAlike, ReloadServesAsOpening}
+use Rattle.zw_fresh.specs.Named.{StreamNamesNone}
+use Rattle.zw_fresh.proofs.NamedLaws.{ReadingSpares, StreamSpares, stream_spared}
 use Rattle.zw_fresh.proofs.SessionLaws.{with_line_same}
 use Rattle.zw_fresh.proofs.OnwardLaws.{both_onward, unloaded_within}
 use Rattle.zw_fresh.proofs.AnswerLaws.{sets_up_within}
 use Rattle.zw_fresh.proofs.EveryLaws.{Both, every_both, raised_next, restored_both}
 use Rattle.zw_fresh.proofs.ReachLaws.{reached_came, begins_again, answers_reload}
 use Rattle.zw_fresh.proofs.PlaceLaws.{place_onward}
-use Rattle.zw_fresh.proofs.HeldLaws.{tables_told}
-use Rattle.zw_fresh.proofs.BootHeldLaws.{boot_tables}
 use Rattle.zw_fresh.proofs.AgainLaws.{is_again}
 
 module _ {S : Setting false} {old : Text → Bool} where
@@ -35,7 +35,7 @@ module _ {S : Setting false} {old : Text → Bool} where
       → OutcomesAlike S.front S.front' (ended status s) (ended status s')
   ended_alike status s s' P = record { out = P.out; status = refl }
 
-  served_alike : ((n : ℕ) → 0 < n → S.lift (n + 1) ≡ S.lift n + 1) → (m : ℕ) (stream : Stream) → StreamSpares old m stream
+  served_alike : ((n : ℕ) → 0 < n → S.setup_there (n + 1) ≡ S.setup_there n + 1) → (m : ℕ) (stream : Stream) → StreamSpares old m stream
       → (s s' : Session) → Both S old s s' → OutcomesAlike S.front S.front' (served m s stream) (served m s' stream)
   served_alike next zero stream h s s' P = ended_alike done s s' P.sessions
   served_alike next (suc m) stream h s s' P = by (served_alike next m) (next_command stream) h
@@ -51,19 +51,19 @@ module _ {S : Setting false} {old : Text → Bool} where
       by more over h = ended_alike limit _ _ (line_both (codes "limit: stream") s s' P).sessions
 
 pub reload_serves : ReloadServesAsOpening
-reload_serves words c folder folder' opening again e e' same may_reload bytes n m stream mounts holds h =
+reload_serves words c folder folder' opening again e e' same may_reload bytes n m stream mounts h =
     let place = place_after n (first_place opening bytes) in
     let s = place.session in
     let t = unloaded s in
     let A = both_onward (sets_up_within opening).onward (place_onward n (first_place opening bytes)) in
-    let T = tables_told opening.image (boot_tables words c folder opening e holds) s.staged in
     let front' = t.out ++ codes "reloaded" ++ codes "\n" in
-    let spares = subst (λ variables. StreamSpares (older variables) m stream) (sym (unloaded_within s).variables) h in
+    let spares = stream_spared t.variables m stream
+    (subst (λ variables. StreamNamesNone variables m stream) (sym (unloaded_within s).variables) h) in
     let law : OutcomesAlike again.out front' (served m (sets_up (fresh_session t.image t.settings t.staged again.out)) stream)
     (served m (reloads s) stream)
     = served_alike (raised_next t.world.setups) m stream spares _ _
     (restored_both t.image t.world t.settings t.staged t.variables t.is_down again.out front'
-    (reached_came words c folder opening s e A T)) in
+    (reached_came words c folder opening s e A)) in
     subst (λ z. OutcomesAlike again.out front' (served m (sets_up again) stream) (served m z stream))
     (sym (answers_reload words c folder opening s e may_reload A))
     (subst (λ z. OutcomesAlike again.out front' (served m (sets_up z) stream) (served m (reloads s) stream))

@@ -8,9 +8,9 @@ use Rattle.zw_def_world.specs.Value.{Value, Values, nil, truth, int, text, symbo
 use Rattle.zw_def_world.specs.Record.{Object}
 use Rattle.zw_def_world.specs.World.{World, variables_of, is_frozen}
 use Rattle.zw_def_world.specs.Inspect.{class_text, class_name, kept_or_class, message_of, is_exception, exception_text, plain_text, object_text, inspected, inspected_items, inspected_more, object_built_in, built_in, told_module, told, fault_line}
-use Rattle.zw_fresh.specs.Renaming.{lifted, ren, ren_all, ren_object, ren_table}
+use Rattle.zw_fresh.specs.Renaming.{lifted, lifted_object, ren, ren_all, ren_object, ren_table}
 use Rattle.zw_fresh.specs.Alike.{Setting, Found, Worlds}
-use Rattle.zw_fresh.proofs.FoundLaws.{some_found, found_bind, found_map, found_if, boot_same, module_map, object_bind, object_map}
+use Rattle.zw_fresh.proofs.FoundLaws.{some_found, found_bind, found_map, found_if, module_map, object_bind, object_map, main_same}
 use Rattle.zw_fresh.proofs.AncestorLaws.{class_of_found, makes_exceptions_found}
 
 -- a text is the same there
@@ -44,8 +44,8 @@ module _ {calm : Bool} {S : Setting calm} {w w' : World} (W : Worlds calm S w w'
   plain_text_found o = found_map _ _ (class_text_found o.class) (λ t. refl)
 
   object_text_found : (i : Id) (o : Object)
-      → Found calm as_it_is (object_text w i o) (object_text w' (lifted S.lift i) (ren_object S.lift o))
-  object_text_found i o = found_if (boot_same S i 30) (some_found (codes "main") refl)
+      → Found calm as_it_is (object_text w i o) (object_text w' (lifted_object S.lift i) (ren_object S.lift o))
+  object_text_found i o = found_if (main_same S i) (some_found (codes "main") refl)
       (found_bind _ _ (is_exception_found o) (λ b. found_if refl (exception_text_found o) (plain_text_found o)))
 
   mutual
@@ -70,7 +70,7 @@ module _ {calm : Bool} {S : Setting calm} {w w' : World} (W : Worlds calm S w w'
         found_bind _ _ (inspected_found v) (λ t. found_map _ _ (more_found vs) (λ more. refl))
 
   object_built_in_found : (i : Id) (o : Object)
-      → Found calm as_it_is (object_built_in w i o) (object_built_in w' (lifted S.lift i) (ren_object S.lift o))
+      → Found calm as_it_is (object_built_in w i o) (object_built_in w' (lifted_object S.lift i) (ren_object S.lift o))
   object_built_in_found i o =
       found_bind _ _ (is_exception_found o) (λ b. found_if refl (message_found o) (object_text_found i o))
 
@@ -96,7 +96,7 @@ module _ {calm : Bool} {S : Setting calm} {w w' : World} (W : Worlds calm S w w'
   told_found (symbol t) = instance_found (symbol t)
   told_found (array vs) = instance_found (array vs)
   told_found (module_at i) = module_map W told_module told_module i (λ m c. refl)
-  told_found (object_at i) = found_if (boot_same S i 30) (some_found (codes "main") refl) (instance_found (object_at i))
+  told_found (object_at i) = found_if (main_same S i) (some_found (codes "main") refl) (instance_found (object_at i))
 
   pub fault_line_found : (o : Object) → Found calm as_it_is (fault_line w o) (fault_line w' (ren_object S.lift o))
   fault_line_found o = found_bind _ _ (class_text_found o.class) (λ class. found_map _ _ (message_found o) (λ t. refl))

@@ -98,6 +98,7 @@ module _ {S : Setting false} {old : Text → Bool} where
 
   dropped_same : (s s' : Session) → Sessions S old s s' → Sessions S old (with_idle_dropped s) (with_idle_dropped s')
   dropped_same s s' P = record {
+    plain = P.plain;
     world = dropped_worlds P.world;
     variables = P.variables;
     staged = P.staged;

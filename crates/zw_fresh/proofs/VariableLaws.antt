@@ -19,7 +19,7 @@ use Rattle.zw_def_world.proofs.FaultLaws.{fails_keeps}
 use Rattle.zw_def_world.proofs.CallLaws.{or_nil_keeps, sets_variable_keeps}
 use Rattle.zw_def_world.proofs.LoadLaws.{sets_keeps}
 use Rattle.zw_def_world.proofs.NodeLaws.{in_class_scope_keeps, held_by_keeps, sets_class_variable_keeps, chosen_keeps, after_turn_keeps}
-use Rattle.zw_fresh.specs.Renaming.{lifted, lifted_all, ren, ren_flow, ren_module}
+use Rattle.zw_fresh.specs.Renaming.{Names, lifted, lifted_all, ren, ren_flow, ren_module}
 use Rattle.zw_fresh.specs.Alike.{Setting, Found, Worlds}
 use Rattle.zw_fresh.proofs.ActLaws.{Spends, Alike, ends_alike, gives_alike, on_alike, then_alike, if_alike, if_same_alike, in_frame_alike, reading_alike, paid_alike}
 use Rattle.zw_fresh.proofs.TableLemmas.{assigned-made, at-made, is_some-made}
@@ -35,12 +35,12 @@ use Rattle.zw_fresh.proofs.LoadLaws.{sets_alike}
 
 -- ---- what stays
 
-pub holder_or_same : (f : ℕ → ℕ) (i : Id) (o : Option Id)
+pub holder_or_same : (f : Names) (i : Id) (o : Option Id)
     → holder_or (lifted f i) (option_map (lifted f) o) ≡ lifted f (holder_or i o)
 holder_or_same f i None = refl
 holder_or_same f i (Some j) = refl
 
-pub final_same : (f : ℕ → ℕ) (flow : Flow) → is_final (ren_flow f flow) ≡ is_final flow
+pub final_same : (f : Names) (flow : Flow) → is_final (ren_flow f flow) ≡ is_final flow
 final_same f (gave v) = refl
 final_same f (raised i) = refl
 final_same f broken = refl
@@ -50,7 +50,7 @@ final_same f out_of_steps = refl
 final_same f too_deep = refl
 final_same f lost = refl
 
-pub session_same : (f : ℕ → ℕ) (b : Bool) (o : Option Value)
+pub session_same : (f : Names) (b : Bool) (o : Option Value)
     → (if b then option_map (ren f) o else None) ≡ option_map (ren f) (if b then o else None)
 session_same f true o = refl
 session_same f false o = refl
@@ -96,7 +96,7 @@ module _ {S : Setting false} {old : Text → Bool} where
   class_scope_alike {k} {k'} b l = in_frame_alike (lifted_all S.lift) (λ a c F. F.scopes) at_scope (in_class_scope_keeps l)
     where
       at_scope : (is : List Id) → Alike S old (in_class_scope k is) (in_class_scope k' (lifted_all S.lift is))
-      at_scope [] = fails_alike 21 (codes "class variable access from toplevel")
+      at_scope [] = fails_alike 21 refl (codes "class variable access from toplevel")
       at_scope (i ∷ is) = b i
 
   held_alike : (x : Text) (i : Id) (o : Option Id)

@@ -9,23 +9,23 @@ use Rattle.zw_def_world.specs.Id.{Id, Records, id_eq, same_load, held_at, change
 use Rattle.zw_def_world.specs.Value.{Value}
 use Rattle.zw_def_world.specs.Table.{Table, at as at_name}
 use Rattle.zw_def_world.specs.Record.{Module, Object}
-use Rattle.zw_def_world.specs.World.{World, innermost_load, made_now, fresh, counted, with_object, at_object, at_module}
+use Rattle.zw_def_world.specs.World.{World, innermost_load, made_now, fresh, counted, with_object, with_module, at_object, at_module}
 use Rattle.zw_def_world.specs.Meeting.{with_meeting}
-use Rattle.zw_fresh.specs.Renaming.{lifted, ren_object, ren_table}
+use Rattle.zw_fresh.specs.Renaming.{lifted, lifted_object, ren_object, ren_table}
 use Rattle.zw_fresh.specs.Alike.{Setting, LeavesConstants, When, Met, Constant, Modules, module_with, shows, Objects, Worlds}
-use Rattle.zw_fresh.proofs.FoundLaws.{id_same}
 
 -- ---- records by their names
 
-held_met : {A B : Type 0} {calm : Bool} (S : Setting calm) (R : A → B → Type 0) (i : Id) (x : Option A) (y : Option B)
-    (records : Records A) (records' : Records B) → Met calm R x y
-    → ((j : Id) → Met calm R (records j) (records' (lifted S.lift j)))
-    → (j : Id) → Met calm R (held_at i x records j) (held_at (lifted S.lift i) y records' (lifted S.lift j))
-held_met {A} {B} {calm} S R i x y records records' here all j =
-    subst (λ b. Met calm R (if id_eq j i then x else records j) (if b then y else records' (lifted S.lift j)))
-    (sym (id_same S j i)) (at (id_eq j i))
+-- `name` says how each is named there
+held_met : {A B : Type 0} (calm : Bool) (name : Id → Id) → ((i j : Id) → id_eq (name i) (name j) ≡ id_eq i j)
+    → (R : A → B → Type 0) (i : Id) (x : Option A) (y : Option B) (records : Records A) (records' : Records B)
+    → Met calm R x y → ((j : Id) → Met calm R (records j) (records' (name j)))
+    → (j : Id) → Met calm R (held_at i x records j) (held_at (name i) y records' (name j))
+held_met {A} {B} calm name apart R i x y records records' here all j =
+    subst (λ b. Met calm R (if id_eq j i then x else records j) (if b then y else records' (name j)))
+    (sym (apart j i)) (at (id_eq j i))
   where
-    at : (b : Bool) → Met calm R (if b then x else records j) (if b then y else records' (lifted S.lift j))
+    at : (b : Bool) → Met calm R (if b then x else records j) (if b then y else records' (name j))
     at true = here
     at false = all j
 
@@ -38,18 +38,18 @@ met_changed calm R g g' f None None m = tt
 met_changed true R g g' f None (Some y) m = tt
 met_changed false R g g' f None (Some y) m = absurd m
 
-pub changed_met : {A B : Type 0} {calm : Bool} (S : Setting calm) (R : A → B → Type 0) (i : Id) (g : A → A) (g' : B → B)
-    (records : Records A) (records' : Records B) → ((x : A) (y : B) → R x y → R (g x) (g' y))
-    → ((j : Id) → Met calm R (records j) (records' (lifted S.lift j)))
-    → (j : Id) → Met calm R (changed_at i g records j) (changed_at (lifted S.lift i) g' records' (lifted S.lift j))
-changed_met {A} {B} {calm} S R i g g' records records' f all j =
-    held_met S R i _ _ records records' (met_changed calm R g g' f (records i) (records' (lifted S.lift i)) (all i)) all j
+pub changed_met : {A B : Type 0} (calm : Bool) (name : Id → Id) → ((i j : Id) → id_eq (name i) (name j) ≡ id_eq i j)
+    → (R : A → B → Type 0) (i : Id) (g : A → A) (g' : B → B) (records : Records A) (records' : Records B)
+    → ((x : A) (y : B) → R x y → R (g x) (g' y)) → ((j : Id) → Met calm R (records j) (records' (name j)))
+    → (j : Id) → Met calm R (changed_at i g records j) (changed_at (name i) g' records' (name j))
+changed_met {A} {B} calm name apart R i g g' records records' f all j =
+    held_met calm name apart R i _ _ records records' (met_changed calm R g g' f (records i) (records' (name i)) (all i)) all j
 
-pub made_met : {A B : Type 0} {calm : Bool} (S : Setting calm) (R : A → B → Type 0) (i : Id) (x : A) (y : B)
-    (records : Records A) (records' : Records B) → R x y
-    → ((j : Id) → Met calm R (records j) (records' (lifted S.lift j)))
-    → (j : Id) → Met calm R (with_record i x records j) (with_record (lifted S.lift i) y records' (lifted S.lift j))
-made_met S R i x y records records' here all j = held_met S R i (Some x) (Some y) records records' here all j
+pub made_met : {A B : Type 0} (calm : Bool) (name : Id → Id) → ((i j : Id) → id_eq (name i) (name j) ≡ id_eq i j)
+    → (R : A → B → Type 0) (i : Id) (x : A) (y : B) (records : Records A) (records' : Records B) → R x y
+    → ((j : Id) → Met calm R (records j) (records' (name j)))
+    → (j : Id) → Met calm R (with_record i x records j) (with_record (name i) y records' (name j))
+made_met calm name apart R i x y records records' here all j = held_met calm name apart R i (Some x) (Some y) records records' here all j
 
 -- ---- what is made next
 
@@ -65,8 +65,16 @@ module _ {calm : Bool} {S : Setting calm} {w w' : World} (W : Worlds calm S w w'
       by true o h = h (ap innermost_load o)
       by false o h = h
 
-  pub fresh_same : fresh w' ≡ lifted S.lift (fresh w)
-  fresh_same = λ i. record { setup = W.setups i; load = innermost_load (W.loads i); count = count_same i }
+  fresh_there : fresh w' ≡ record (fresh w) { setup = S.setup_there w.setups }
+  fresh_there = λ i. record { setup = W.setups i; load = innermost_load (W.loads i); count = count_same i }
+
+  pub fresh_object : fresh w' ≡ lifted_object S.lift (fresh w)
+  fresh_object = fresh_there ∙ S.object_named w
+
+  -- a module that is made
+  pub fresh_module : (i : Id) (n : Text) (made : Module) → S.within (with_module i n made w)
+      → fresh w' ≡ lifted S.lift (fresh w)
+  fresh_module i n made inside = fresh_there ∙ S.module_named w i n made inside
 
   pub counts_same : (l : Option ConstantPath)
       → When calm (l ≡ None → (counted w').counts l ≡ (counted w).counts l) ((counted w').counts l ≡ (counted w).counts l)
@@ -96,8 +104,8 @@ module _ {calm : Bool} {S : Setting calm} {w w' : World} (W : Worlds calm S w w'
     modules = W.modules;
     objects = λ j. subst
         (λ i. Met calm (Objects S.lift) (with_record (fresh w) o w.objects j)
-        (with_record i (ren_object S.lift o) w'.objects (lifted S.lift j)))
-        (sym fresh_same) (made_met S (Objects S.lift) (fresh w) o (ren_object S.lift o) w.objects w'.objects refl W.objects j);
+        (with_record i (ren_object S.lift o) w'.objects (lifted_object S.lift j)))
+        (sym fresh_object) (made_met calm S.lift.of_object S.objects_apart (Objects S.lift) (fresh w) o (ren_object S.lift o) w.objects w'.objects refl W.objects j);
     due = due calm S W.due;
   }
     where
@@ -107,7 +115,7 @@ module _ {calm : Bool} {S : Setting calm} {w w' : World} (W : Worlds calm S w w'
       due false T d = tt
 
   pub object_same : (i : Id) (g g' : Object → Object) → ((o : Object) → g' (ren_object S.lift o) ≡ ren_object S.lift (g o))
-      → Worlds calm S (at_object i g w) (at_object (lifted S.lift i) g' w')
+      → Worlds calm S (at_object i g w) (at_object (lifted_object S.lift i) g' w')
   object_same i g g' f = record {
     setups = W.setups;
     loads = W.loads;
@@ -119,12 +127,12 @@ module _ {calm : Bool} {S : Setting calm} {w w' : World} (W : Worlds calm S w w'
     states = W.states;
     order = W.order;
     modules = W.modules;
-    objects = changed_met S (Objects S.lift) i g g' w.objects w'.objects (λ x y e. ap g' e ∙ f x) W.objects;
+    objects = changed_met calm S.lift.of_object S.objects_apart (Objects S.lift) i g g' w.objects w'.objects (λ x y e. ap g' e ∙ f x) W.objects;
     due = due calm S W.due;
   }
     where
       due : (c : Bool) (T : Setting c) → When c (T.due w w') (Unit {0})
-          → When c (T.due (at_object i g w) (at_object (lifted T.lift i) g' w')) (Unit {0})
+          → When c (T.due (at_object i g w) (at_object (lifted_object T.lift i) g' w')) (Unit {0})
       due true T d = T.still_object w w' i g g' d
       due false T d = tt
 
@@ -144,7 +152,7 @@ module _ {calm : Bool} {S : Setting calm} {w w' : World} (W : Worlds calm S w w'
     setting = W.setting;
     states = W.states;
     order = W.order;
-    modules = changed_met S (Modules calm S.lift (shows calm S w)) i g g' w.modules w'.modules
+    modules = changed_met calm S.lift.of_module S.apart (Modules calm S.lift (shows calm S w)) i g g' w.modules w'.modules
         (at calm (shows calm S w)) W.modules;
     objects = W.objects;
     due = due calm S W.due;

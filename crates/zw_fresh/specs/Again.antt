@@ -1,4 +1,4 @@
--- The law, for two processes that open: one that reloads, and one whose folder holds the tree that the other then mounts.
+-- The law, for two processes that open: one reloads, and the folder of the other holds the tree that the first mounts.
 use Rattle.std.specs.Prelude.{◌≡◌, ℕ, true, List, ◌∷◌, ◌++◌, codes, Option, Some, None}
 use Rattle.zw_def.specs.Text.{Text}
 use Rattle.zw_def.specs.Path.{Path, path_text}
@@ -8,10 +8,8 @@ use Rattle.zw_def_world.specs.Session.{Session}
 use Rattle.zw_def_session.specs.Commands.{Command, reload}
 use Rattle.zw_def_session.specs.Opening.{opens_with, Words, Configuration, opened}
 use Rattle.zw_def_session.specs.Whole.{sets_up}
-use Rattle.zw_fresh.specs.Fresh.{older}
 use Rattle.zw_fresh.specs.Law.{answered, WritesAlike}
-use Rattle.zw_fresh.specs.Every.{AllSpare}
-use Rattle.zw_fresh.specs.Held.{BootHolds}
+use Rattle.zw_fresh.specs.Named.{NameNone}
 use Rattle.zw_fresh.specs.Places.{place_after, first_place}
 
 -- both folders have the same bytes under the path of boot's file
@@ -27,7 +25,7 @@ ReloadIsOpening =
     → opened words c folder ≡ opens_with opening → opened words c folder' ≡ opens_with again
     → SameBoot c.boot folder folder' → c.reloading ≡ true → (bytes : Text) (n : ℕ) (commands : List Command)
     → let s = (place_after n (first_place opening bytes)).session in
-    again.staged ≡ s.staged → BootHolds c.boot opening.image → AllSpare (older s.variables) commands
+    again.staged ≡ s.staged → NameNone s.variables commands
     → WritesAlike again.out ((unloaded s).out ++ codes "reloaded" ++ codes "\n")
     (answered commands (sets_up again))
     (answered (reload ∷ commands) s)

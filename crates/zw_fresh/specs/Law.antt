@@ -3,55 +3,34 @@ use Rattle.std.specs.Prelude.{◌≡◌, Bool, List, [], ◌∷◌, ◌++◌, So
 use Rattle.std.specs.Option.{option_map}
 use Rattle.zw_def.specs.Text.{Text}
 use Rattle.zw_def.specs.Tree.{Tree}
-use Rattle.zw_def_syntax.specs.Program.{program_of}
 use Rattle.zw_def_world.specs.Id.{Id}
 use Rattle.zw_def_world.specs.World.{World}
 use Rattle.zw_def_world.specs.Session.{Session}
 use Rattle.zw_def_world.specs.Setup.{is_told, paths_in}
-use Rattle.zw_def_session.specs.Commands.{Command, put, del, run, reload, eager, eager_dir, eager_ns, load, expect, shadows, check}
-use Rattle.zw_def_session.specs.Commands as command
+use Rattle.zw_def_session.specs.Commands.{Command}
 use Rattle.zw_def_world.specs.Reload.{unloaded}
 use Rattle.zw_def_session.specs.Answers.{answer, reloads}
 use Rattle.zw_def_session.specs.Whole.{sets_up}
-use Rattle.zw_fresh.specs.Renaming.{lifted, ren_module, ren_object, ren_load}
-use Rattle.zw_fresh.specs.Naming.{ParsedNamesNone}
+use Rattle.zw_fresh.specs.Renaming.{lifted, lifted_object, ren_module, ren_object, ren_load}
 use Rattle.zw_fresh.specs.Setups.{Past}
-use Rattle.zw_fresh.specs.Fresh.{raised_by, fresh_session, older}
+use Rattle.zw_fresh.specs.Fresh.{raised, fresh_session}
+use Rattle.zw_fresh.specs.Named.{NameNone}
 
 -- What holds of the image that boot left, and of a world that came from it: what boot made holds names of boot alone,
 -- no record of a coming setup is made, and the setting is boot's; and boot's tables have the records that a setup over
 -- the tree reads.
 pub record CameFrom (image w : World) (tree : Tree) : Type 0 where
   pub first : image.setups ≡ 0
-  pub order : image.load_order ≡ mapped (ren_load (raised_by w.setups)) image.load_order
+  pub order : image.load_order ≡ mapped (ren_load (raised w.setups)) image.load_order
   pub modules : (i : Id)
-      → image.modules (lifted (raised_by w.setups) i) ≡ option_map (ren_module (raised_by w.setups)) (image.modules i)
+      → image.modules (lifted (raised w.setups) i) ≡ option_map (ren_module (raised w.setups)) (image.modules i)
   pub objects : (i : Id)
-      → image.objects (lifted (raised_by w.setups) i) ≡ option_map (ren_object (raised_by w.setups)) (image.objects i)
+      → image.objects (lifted_object (raised w.setups) i) ≡ option_map (ren_object (raised w.setups)) (image.objects i)
   pub none : Past image
   pub later : Past w
   pub setting : w.setting ≡ image.setting
   pub told : Bool
   pub tells : is_told image (paths_in image.setting.layout tree) ≡ Some told
-
--- the commands of which the law speaks, all but `reload` and `check`, where they name no older variable
-abbrev pub IsTold : (Text → Bool) → Command → Type 0
-IsTold old (put path text) = Unit {0}
-IsTold old (del path) = Unit {0}
-IsTold old (run text) = ParsedNamesNone old (program_of [] text)
-IsTold old eager = Unit {0}
-IsTold old command.map = Unit {0}
-IsTold old reload = ⊥
-IsTold old (eager_dir path) = Unit {0}
-IsTold old (eager_ns p) = Unit {0}
-IsTold old (load path) = Unit {0}
-IsTold old (expect path) = Unit {0}
-IsTold old shadows = Unit {0}
-IsTold old check = ⊥
-
-abbrev pub AllTold : (Text → Bool) → List Command → Type 0
-AllTold old [] = Unit {0}
-AllTold old (c ∷ cs) = IsTold old c × AllTold old cs
 
 abbrev pub answered : List Command → Session → Session
 answered [] s = s
@@ -66,7 +45,7 @@ WritesAlike front front' s s' = (o : Text) × (s.out ≡ front ++ o) × (s'.out 
 abbrev pub ReloadIsFresh : Type 0
 ReloadIsFresh =
     (s : Session) (front : Text) (commands : List Command)
-    → CameFrom (unloaded s).image (unloaded s).world (unloaded s).staged → AllTold (older (unloaded s).variables) commands
+    → CameFrom (unloaded s).image (unloaded s).world (unloaded s).staged → NameNone (unloaded s).variables commands
     → WritesAlike front ((unloaded s).out ++ codes "reloaded" ++ codes "\n")
     (answered commands (sets_up (fresh_session (unloaded s).image (unloaded s).settings (unloaded s).staged front)))
     (answered commands (reloads s))

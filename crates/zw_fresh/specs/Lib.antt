@@ -5,9 +5,8 @@ pub mod Sessions
 pub mod Fresh
 pub mod Setups
 pub mod Law
-pub mod Every
+pub mod Named
 pub mod Reached
 pub mod Places
 pub mod Again
-pub mod Held
 pub mod Served

@@ -8,10 +8,9 @@ use Rattle.zw_def_session.specs.Commands.{Command, reload, Stream, stream_of, Re
 use Rattle.zw_def_session.specs.Answers.{answer}
 use Rattle.zw_def_session.specs.Opening.{opens_with, Words, Configuration, opened}
 use Rattle.zw_def_session.specs.Whole.{sets_up}
-use Rattle.zw_fresh.specs.Fresh.{older}
 use Rattle.zw_fresh.specs.Law.{answered, WritesAlike}
-use Rattle.zw_fresh.specs.Every.{AllSpare}
-use Rattle.zw_fresh.specs.Reached.{TablesTold, opened_again}
+use Rattle.zw_fresh.specs.Named.{NameNone}
+use Rattle.zw_fresh.specs.Reached.{opened_again}
 
 -- a session, and what is left of its stream
 pub record Place : Type 0 where
@@ -38,10 +37,11 @@ first_place opening bytes = record { session = sets_up opening; rest = stream_of
 -- written had it opened over the tree that is now staged.
 abbrev pub ServedIsFresh : Type 0
 ServedIsFresh =
-    (words : Words) (c : Configuration) (folder : Listing) (opening : Session) → opened words c folder ≡ opens_with opening
-    → c.reloading ≡ true → (bytes : Text) (n : ℕ) (commands : List Command) (front : Text)
+    (words : Words) (c : Configuration) (folder : Listing) (opening : Session)
+    → opened words c folder ≡ opens_with opening → c.reloading ≡ true
+    → (bytes : Text) (n : ℕ) (commands : List Command) (front : Text)
     → let s = (place_after n (first_place opening bytes)).session in
-    TablesTold opening.image s.staged → AllSpare (older s.variables) commands
+    NameNone s.variables commands
     → WritesAlike front ((unloaded s).out ++ codes "reloaded" ++ codes "\n")
     (answered commands (sets_up (opened_again opening s.staged front)))
     (answered (reload ∷ commands) s)

@@ -1,19 +1,16 @@
 -- Sessions that come after others, and the law for each session that commands reach from an opening.
-use Rattle.std.specs.Prelude.{◌≡◌, ◌≤◌, Bool, true, List, ◌∷◌, ◌++◌, codes, Some}
+use Rattle.std.specs.Prelude.{◌≡◌, ◌≤◌, true, List, ◌∷◌, ◌++◌, codes}
 use Rattle.zw_def.specs.Text.{Text}
 use Rattle.zw_def.specs.Tree.{Tree}
 use Rattle.zw_def.specs.Folder.{Listing}
-use Rattle.zw_def_world.specs.World.{World}
-use Rattle.zw_def_world.specs.Setup.{is_told, paths_in}
 use Rattle.zw_def_world.specs.Reload.{unloaded}
 use Rattle.zw_def_world.specs.Session.{Session}
 use Rattle.zw_def_session.specs.Commands.{Command, reload}
 use Rattle.zw_def_session.specs.Opening.{opens_with, Words, Configuration, opened}
 use Rattle.zw_def_session.specs.Whole.{sets_up}
 use Rattle.zw_fresh.specs.Setups.{Past}
-use Rattle.zw_fresh.specs.Fresh.{older}
 use Rattle.zw_fresh.specs.Law.{answered, WritesAlike}
-use Rattle.zw_fresh.specs.Every.{AllSpare}
+use Rattle.zw_fresh.specs.Named.{NameNone}
 
 -- A session goes on to another one: its image, its settings and the setting of its world stay; where no record of a
 -- coming setup was made, none is; and as many setups have begun, or more.
@@ -30,10 +27,6 @@ pub record Within (s t : Session) : Type 0 where
   pub staged : t.staged ≡ s.staged
   pub variables : t.variables ≡ s.variables
 
--- boot's tables have the records that a setup over the tree reads
-abbrev pub TablesTold : World → Tree → Type 0
-TablesTold image tree = (told : Bool) × (is_told image (paths_in image.setting.layout tree) ≡ Some told)
-
 -- the session as it opened, over another tree, and behind other lines
 abbrev pub opened_again : Session → Tree → Text → Session
 opened_again opening tree front = record opening { staged = tree; out = front }
@@ -42,10 +35,10 @@ opened_again opening tree front = record opening { staged = tree; out = front }
 -- `reloaded`, what it would have written had it opened over the tree that is now staged.
 abbrev pub ReachedIsFresh : Type 0
 ReachedIsFresh =
-    (words : Words) (c : Configuration) (folder : Listing) (opening : Session) → opened words c folder ≡ opens_with opening
-    → c.reloading ≡ true → (before commands : List Command) (front : Text)
+    (words : Words) (c : Configuration) (folder : Listing) (opening : Session)
+    → opened words c folder ≡ opens_with opening → c.reloading ≡ true → (before commands : List Command) (front : Text)
     → let s = answered before (sets_up opening) in
-    TablesTold opening.image s.staged → AllSpare (older s.variables) commands
+    NameNone s.variables commands
     → WritesAlike front ((unloaded s).out ++ codes "reloaded" ++ codes "\n")
     (answered commands (sets_up (opened_again opening s.staged front)))
     (answered (reload ∷ commands) s)

@@ -4,9 +4,9 @@
 //!
 //! Two worlds are alike where they differ in the numbers of their setups and in what is older alone (`specs/`); each
 //! kind of node, each primitive method, look-up, load and callback keeps them alike (`proofs/`). `reload_is_fresh` states
-//! the law for a world that came from an image, and all commands but a second `reload` and `check`. `reached_is_fresh`
-//! states it for each session that commands reach from an opening, `reload_is_opening` and `reload_serves_as_opening` for
-//! two processes that open, one of which reloads; these three for all commands.
+//! the law for a world that came from an image, `reached_is_fresh` for each session that commands reach from an opening,
+//! `reload_is_opening` and `reload_serves_as_opening` for two processes that open, one of which reloads; each for all
+//! commands, further reloads among them.
 #![tactic(auto)]
 
 mod again;

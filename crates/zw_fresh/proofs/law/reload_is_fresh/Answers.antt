@@ -1,4 +1,4 @@
-use Rattle.zw_fresh.proofs.LawLaws as laws
+use Rattle.zw_fresh.proofs.EveryLaws as laws
 use Rattle.zw_fresh.proofs.law.reload_is_fresh.Goals as goal
 
 pub returns : goal.returns
