@@ -2,11 +2,13 @@
 use Rattle.std.specs.Prelude.{◌++◌, Result, Ok, Err, codes}
 use Rattle.zw_def.specs.Text.{Text}
 use Rattle.zw_def.specs.Path.{Path, path_text}
+use Rattle.zw_def_config.specs.Fault.{Fault, fault_text}
 
 -- why a session does not start
 pub data Refusal : Type 0 where
   bad_words : Refusal
   no_configuration : Refusal
+  bad_configuration : Fault → Refusal
   other_configuration : Refusal
   other_file : Path → Refusal
   long_listing : Refusal
@@ -25,6 +27,7 @@ pub data Ending : Type 0 where
 abbrev pub line_of_refusal : Refusal → Text
 line_of_refusal bad_words = codes "usage: zw [--budget N] [--log] [--steps] [--eager] CONFIG"
 line_of_refusal no_configuration = codes "config: missing"
+line_of_refusal (bad_configuration fault) = codes "config: " ++ fault_text fault
 line_of_refusal other_configuration = codes "config: not built"
 line_of_refusal (other_file path) = codes "not built: " ++ path_text path
 line_of_refusal long_listing = codes "limit: listing"
@@ -35,6 +38,7 @@ line_of_refusal large_tree = codes "limit: tree"
 abbrev pub ending_of_refusal : Refusal → Ending
 ending_of_refusal bad_words = usage
 ending_of_refusal no_configuration = configuration
+ending_of_refusal (bad_configuration fault) = configuration
 ending_of_refusal other_configuration = configuration
 ending_of_refusal (other_file path) = configuration
 ending_of_refusal long_listing = limit

@@ -1,43 +1,51 @@
--- The configurations that are read so far.
-use Rattle.std.specs.Prelude.{ℕ, Bool, Option, Some, None, ◌&&◌, ◌||◌, ◌==◌, ◌-◌, not, if◌then◌else◌, codes, nat_le, length, take, drop, unwrap_or}
-use Rattle.std.specs.List.{list_all}
-use Rattle.std.specs.Option.{option_and_then, ok_or}
-use Rattle.std.specs.Str.{bytes_eq, is_utf8}
-use Rattle.zw_def.specs.Text.{Text, after_prefix}
-use Rattle.zw_def.specs.Path.{Path, path_of}
-use Rattle.zw_def_thin.specs.Refusal.{Start, other_configuration}
+-- The configurations that are carried out so far: those that have no keys but `reloading` and one root with its path alone.
+use Rattle.std.specs.Prelude.{Bool, true, false, ◌&&◌, List, [], ◌∷◌, codes, Option, Some, None, Ok, Err, if◌then◌else◌}
+use Rattle.std.specs.Option.{option_map_or}
+use Rattle.toml.specs.Data.{Data, Items, no_items, item, Members, as_array, as_table}
+use Rattle.zw_def.specs.Text.{Text}
+use Rattle.zw_def.specs.Path.{Path}
+use Rattle.zw_def.specs.Layout.{Root}
+use Rattle.zw_def_session.specs.Opening.{Configuration}
+use Rattle.zw_def_config.specs.Fault.{Reading}
+use Rattle.zw_def_config.specs.Key.{at, has_only}
+use Rattle.zw_def_config.specs.Configuration.{document, configuration_in}
+use Rattle.zw_def_thin.specs.Refusal.{Start, ◌>>=◌, bad_configuration, other_configuration}
 
--- the quote and the backslash: what neither is stands for itself between quotes
-abbrev pub quote : ℕ
-quote = 34
+-- ---- what is built
 
-abbrev pub backslash : ℕ
-backslash = 92
+abbrev pub is_plain_root : Data → Bool
+is_plain_root value = option_map_or (has_only (codes "path" ∷ [])) (as_table value) false
 
-abbrev pub is_root_byte : ℕ → Bool
-is_root_byte b = not (b == quote || b == backslash)
+abbrev pub is_one_root : Items → Bool
+is_one_root no_items = false
+is_one_root (item value no_items) = is_plain_root value
+is_one_root (item value (item other more)) = false
 
--- a root's path that is built so far: any text without quotes and backslashes
-abbrev pub root_text : Text → Option Text
-root_text name = if is_utf8 name && list_all is_root_byte name then Some name else None
+abbrev pub are_roots_built : Data → Bool
+are_roots_built value = option_map_or is_one_root (as_array value) false
 
--- what stands before a suffix, where the text ends with it
-abbrev pub before_suffix : Text → Text → Option Text
-before_suffix suffix text =
-    if nat_le (length suffix) (length text) && bytes_eq (drop (length text - length suffix) text) suffix
-    then Some (take (length text - length suffix) text) else None
+abbrev pub is_built : Members → Bool
+is_built table =
+    has_only (codes "root" ∷ codes "reloading" ∷ []) table && option_map_or are_roots_built (at (codes "root") table) true
 
--- the text without a first line `reloading = true`
-abbrev pub past_reloading : Text → Text
-past_reloading text = unwrap_or (after_prefix (codes "reloading = true\n") text) text
+-- ---- the root
 
--- the root of a configuration's text that is built so far: an optional line `reloading = true`, then `[[root]]`,
--- then `path = "NAME"`, and no other bytes
-abbrev pub root_name : Text → Option Text
-root_name text =
-    option_and_then (λ rest. option_and_then root_text (before_suffix (codes "\"\n") rest))
-    (after_prefix (codes "[[root]]\npath = \"") (past_reloading text))
+-- what was read, or the start that is refused for it
+abbrev pub accepted : {X : Type 0} → Reading X → Start X
+accepted (Ok x) = Ok x
+accepted (Err fault) = Err (bad_configuration fault)
 
--- the root that the name tells, where it tells a path
-abbrev pub root_of : Text → Start Path
-root_of text = ok_or (option_and_then path_of (root_name text)) other_configuration
+abbrev pub first_path : List Root → Option Path
+first_path [] = None
+first_path (root ∷ roots) = Some root.path
+
+-- the root of a configuration, if it has one; a configuration without keys has none
+abbrev pub built_root : Members → Configuration → Start (Option Path)
+built_root table c = if is_built table then Ok (first_path c.layout.roots) else Err other_configuration
+
+abbrev pub root_in : Path → Members → Start (Option Path)
+root_in path table = accepted (configuration_in path table) >>= built_root table
+
+-- the root that the bytes of the configuration at the path name, if they name one
+abbrev pub root_of : Path → Text → Start (Option Path)
+root_of path bytes = accepted (document bytes) >>= root_in path

@@ -1,5 +1,5 @@
 -- The sessions of the first path: how one starts, and what its commands answer.
-use Rattle.std.specs.Prelude.{Bool, Ok, Err, if◌then◌else◌}
+use Rattle.std.specs.Prelude.{Bool, [], Option, Some, None, Ok, Err, if◌then◌else◌}
 use Rattle.std.specs.Option.{option_map_or}
 use Rattle.zw_def.specs.Text.{Text}
 use Rattle.zw_def.specs.Path.{Path}
@@ -22,16 +22,21 @@ world_of root tree =
     option_map_or (λ path. Err (other_file path)) (first_other root (visible root tree)) (Ok (world_at root tree))
 
 -- the root, where the words have neither flags nor options, which are not built so far
-abbrev pub with_bare_words : Bool → Path → Start Path
+abbrev pub with_bare_words : Bool → Option Path → Start (Option Path)
 with_bare_words is_bare root = if is_bare then Ok root else Err other_configuration
 
--- with this root
-abbrev pub world_in : Path → Path → Listing → Start World
-world_in root path folder = tree_of path folder >>= world_of root
+-- without a root no file is visible, as in an empty tree
+abbrev pub world_below : Path → Option Path → Tree → Start World
+world_below path None tree = world_of path []
+world_below path (Some root) tree = world_of root tree
 
--- the root that the configuration at this path names
-abbrev pub root_at : Path → Listing → Start Path
-root_at path folder = configuration_text path folder.files >>= root_of
+-- with this root, if there is one
+abbrev pub world_in : Option Path → Path → Listing → Start World
+world_in root path folder = tree_of path folder >>= world_below path root
+
+-- the root that the configuration at this path names, if it names one
+abbrev pub root_at : Path → Listing → Start (Option Path)
+root_at path folder = configuration_text path folder.files >>= root_of path
 
 -- with the configuration at this path
 abbrev pub started_at : Bool → Path → Listing → Start World

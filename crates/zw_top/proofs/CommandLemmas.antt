@@ -1,6 +1,5 @@
--- Lines as commands, and texts as roots.
-use Rattle.std.proofs.Common.{◌≡◌, ◌≢◌, ◌∷◌, ◌++◌, ◌-◌, ◌&&◌, nat_eq, ℕ, suc, Bool, true, false, [], Some, None, cond, length, take, get_or, refl, sym, ap, ◌∙◌, arith}
-use Rattle.std.specs.List.{list_all}
+-- Lines as commands.
+use Rattle.std.proofs.Common.{◌≡◌, ◌≢◌, ◌∷◌, ◌++◌, ◌-◌, nat_eq, ℕ, suc, Bool, true, false, [], cond, length, take, get_or, refl, sym, ap, ◌∙◌, arith}
 use Rattle.std.specs.Str.{IsUtf8}
 use Rattle.std.specs.Str.Lines.{strip_carriage_return}
 use Rattle.std.proofs.lemmas.Bool.Decides.{nat_tests}
@@ -9,7 +8,6 @@ use Rattle.std.proofs.Math.Seq.{take-suc}
 use Rattle.std.proofs.lemmas.Str.{is_utf8-from_IsUtf8}
 use Rattle.zw_def.specs.Text.{Text}
 use Rattle.zw_def_thin.specs.Command.{command_of_text, command_in, refused, not_utf8}
-use Rattle.zw_def_thin.specs.Root.{root_text, is_root_byte}
 use Rattle.zw_top.proofs.MountLemmas.{is_utf8-false}
 
 -- ---- a line without its CR
@@ -40,12 +38,3 @@ text_command line valid = ap (λ t. cond t (command_in (strip_carriage_return li
 
 pub other_command : (line : Text) → (IsUtf8 line → ⊥) → command_of_text line ≡ refused not_utf8
 other_command line other = ap (λ t. cond t (command_in (strip_carriage_return line)) (refused not_utf8)) (is_utf8-false line other)
-
--- ---- a root's path
-
-pub root_text-valid : (name : Text) (b : Bool) → IsUtf8 name → b ≡ list_all is_root_byte name → root_text name ≡ cond b (Some name) None
-root_text-valid name b valid is =
-    ap (λ t. cond (t && list_all is_root_byte name) (Some name) None) (is_utf8-from_IsUtf8 name valid) ∙ ap (λ t. cond t (Some name) None) (sym is)
-
-pub root_text-other : (name : Text) → (IsUtf8 name → ⊥) → root_text name ≡ None
-root_text-other name other = ap (λ t. cond (t && list_all is_root_byte name) (Some name) None) (is_utf8-false name other)

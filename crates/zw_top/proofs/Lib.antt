@@ -1,4 +1,5 @@
 pub mod CommandLemmas
+pub mod ConfigurationLemmas
 pub mod ListingLemmas
 pub mod MountLemmas
 pub mod GroupLemmas

@@ -1,5 +1,5 @@
 -- A whole run: its refusals, its statuses, and what it leaves of the stream.
-use Rattle.std.proofs.Common.{◌≡◌, ◌≢◌, List, Option, Some, None, Err, IfSome, refl, sym, ap, subst}
+use Rattle.std.proofs.Common.{◌≡◌, ◌≢◌, List, [], Option, Some, None, Ok, Err, IfSome, refl, sym, ap, subst, arith}
 use Rattle.std.specs.Option.{ok_or}
 use Rattle.zw_def.specs.Text.{Text}
 use Rattle.zw_def_session.specs.Settings.{Settings, settings_of}
@@ -15,7 +15,8 @@ use Rattle.zw_base.specs.declared.fault.Fault.TheVariants.{Refused}
 use Rattle.zw_base.specs.declared.fault.Fault.TheVariants as fault
 use Rattle.zw_top.specs.Refusal.{refusal_seen, Stops}
 use Rattle.zw_top.specs.Start.{GivesSession}
-use Rattle.zw_top.specs.Run.{status_of_ending, line_for, Refuses, RefusesFor, Writes}
+use Rattle.zw_top.specs.Run.{status_of_ending, line_for, Refuses, RefusesFor, KeepsToStart, Writes}
+use Rattle.zw_top.specs.Stream.{Takes, TakesFront}
 use Rattle.zw_top.specs.declared.status.Status.{Status}
 use Rattle.zw_top.specs.declared.status.Status.TheVariants.{Done, Usage, Config, ReadFault, WriteFault, FolderFault, Memory, Limit}
 use Rattle.zw_top.specs.declared.refusal.Stop.{Stop}
@@ -89,7 +90,58 @@ fault_writes status f settings None left later first now gives refuses = tt
 fault_writes status f settings (Some l) None later first now gives refuses = tt
 fault_writes status f settings (Some l) (Some bytes) later first now gives refuses = fault_at status f (started_with settings l) bytes later first now gives refuses
 
--- ---- a session that starts
+-- ---- what is taken of the stream
+
+no_end : (r : start.Refusal) → Done ≡ status_of_ending (ending_of_refusal r) → ⊥
+no_end start.bad_words is = cc
+no_end start.no_configuration is = cc
+no_end (start.bad_configuration fault) is = cc
+no_end start.other_configuration is = cc
+no_end (start.other_file path) is = cc
+no_end start.long_listing is = cc
+no_end start.many_files is = cc
+no_end (start.large_file path) is = cc
+no_end start.large_tree is = cc
+
+nothing_taken : (bytes : Text) (later : Option Text) → later ≡ Some bytes → TakesFront bytes later
+nothing_taken bytes later same = record { taken = []; rest = bytes; split = refl; few = omega arith; told = same }
+
+refused_takes : (status : Status) (r : start.Refusal) (bytes : Text) (later first now : Option Text) → Refuses status r first now
+    → later ≡ Some bytes → Takes status bytes later
+refused_takes Done r bytes later first now refuses same = absurd (no_end r refuses.0)
+refused_takes Usage r bytes later first now refuses same = same
+refused_takes Config r bytes later first now refuses same = same
+refused_takes FolderFault r bytes later first now refuses same = same
+refused_takes Limit r bytes later first now refuses same = nothing_taken bytes later same
+refused_takes WriteFault r bytes later first now refuses same = nothing_taken bytes later same
+refused_takes ReadFault r bytes later first now refuses same = nothing_taken bytes later same
+refused_takes Memory r bytes later first now refuses same = nothing_taken bytes later same
+
+-- a session that does not start takes nothing
+pub fault_takes : (status : Status) (f : Fault Stop) (left later first now : Option Text) → RefusesFor status f first now
+    → later ≡ left → IfSome left (λ bytes. Takes status bytes later)
+fault_takes status f None later first now refuses same = tt
+fault_takes status (Refused (stop.Refusal r)) (Some bytes) later first now refuses same =
+    refused_takes status (refusal_seen r) bytes later first now refuses same
+fault_takes status (Refused stop.FolderFault) (Some bytes) later first now refuses same = rw refuses.0 same
+fault_takes status fault.Memory (Some bytes) later first now refuses same = rw refuses.0 (nothing_taken bytes later same)
+
+-- ---- want of memory
+
+no_usage : Memory ≡ Usage → ⊥
+no_usage is = cc
+
+no_config : Memory ≡ Config → ⊥
+no_config is = cc
+
+memory_keeps : {X : Type 0} (from : Start X) (first now : Option Text) → now ≡ first → KeepsToStart Memory from first now
+memory_keeps (Err refusal) first now same = same
+memory_keeps (Ok x) first now same = (no_usage, no_config)
+
+pub lacks_refuses : (words : List Text) (told : Option Listing) (first now : Option Text) → now ≡ first
+    → IfSome told (λ l. KeepsToStart Memory (started words l) first now)
+lacks_refuses words None first now same = tt
+lacks_refuses words (Some l) first now same = memory_keeps (started words l) first now same
 
 -- ---- from the words
 

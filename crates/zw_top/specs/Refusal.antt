@@ -4,13 +4,15 @@ use Rattle.zw_def.specs.Told.{Rose}
 use Rattle.zw_def_thin.specs.Refusal as defined
 use Rattle.zw_base.specs.declared.fault.Fault.{Fault}
 use Rattle.zw_base.specs.declared.fault.Fault.TheVariants.{Refused, Memory}
+use Rattle.zw_config.specs.Fault.{fault_seen}
 use Rattle.zw_top.specs.declared.refusal.Refusal as code
-use Rattle.zw_top.specs.declared.refusal.Refusal.TheVariants.{NoConfiguration, OtherConfiguration, OtherFile, LongListing, ManyFiles, LargeFile, LargeTree}
+use Rattle.zw_top.specs.declared.refusal.Refusal.TheVariants.{NoConfiguration, BadConfiguration, OtherConfiguration, OtherFile, LongListing, ManyFiles, LargeFile, LargeTree}
 use Rattle.zw_top.specs.declared.refusal.Stop.{Stop}
 use Rattle.zw_top.specs.declared.refusal.Stop.TheVariants.{Refusal, FolderFault}
 
 abbrev pub refusal_seen : code.Refusal → defined.Refusal
 refusal_seen NoConfiguration = defined.no_configuration
+refusal_seen (BadConfiguration fault) = defined.bad_configuration (fault_seen fault)
 refusal_seen OtherConfiguration = defined.other_configuration
 refusal_seen (OtherFile path) = defined.other_file path
 refusal_seen LongListing = defined.long_listing

@@ -1,10 +1,13 @@
 //! The configuration: its file, and the root that it names.
-ghost use Rattle.std.specs.Prelude.{◌≡◌, ℕ, List, Option, Err, IfOk, IfErr, IfSome, option_map};
-ghost use Rattle.std.specs.List.{list_all};
-ghost use Rattle.zw_def.specs.Text.{after_prefix};
+ghost use Rattle.std.specs.Prelude.{◌≡◌, ℕ, List, Option, Err, IfOk, IfErr, IfSome, map};
+ghost use Rattle.toml.specs.View.{items_view, table_view, view};
+ghost use Rattle.zw_def.specs.Text.{Text};
+ghost use Rattle.zw_def.specs.Path as paths;
 ghost use Rattle.zw_def.specs.Path.{path_of};
+ghost use Rattle.zw_inflect.specs.Layout.{root_seen};
+ghost use Rattle.zw_config.specs.Config.{config_seen};
 ghost use Rattle.zw_def_thin.specs.Mount.{configuration_by, configuration_text};
-ghost use Rattle.zw_def_thin.specs.Root.{before_suffix, past_reloading, root_text, root_name, root_of, is_root_byte};
+ghost use Rattle.zw_def_thin.specs.Root as defined;
 ghost use Rattle.zw_def_thin.specs.Session.{root_at};
 ghost use Rattle.zw_io.specs.FolderAnswers.{CountsFail};
 ghost use Rattle.zw_top.specs.Refusal.{Gives, KeepsFolder, CountsStart};
@@ -13,8 +16,12 @@ ghost use Rattle.zw_top.specs.Reading.{IsOuter, IsFront, ReadsFile, file_seen};
 use crate::limits;
 use crate::refusal::{Refusal, StartFault, Stop, refused};
 use std::alloc::{AllocError, Global};
+use toml::{Table, Value};
 use zw_base::Fault;
+use zw_config::{Config, ReadFault, has_only, read_table, table_of, value_at};
+use zw_inflect::Root;
 use zw_io::{Fail, Folder};
+use zw_names::Names;
 use zw_path::{Path, PathFault};
 
 /// The path that a text tells, if it tells one.
@@ -94,71 +101,102 @@ fn configuration_in<F: Folder>(
     configuration_from(alloc, path, file)
 }
 
-fn is_root(name: &[u8]) -> bool
-    ensures { result ≡ list_all is_root_byte name.now }
+fn is_plain_root(value: &Value) -> bool
+    ensures { result ≡ defined.is_plain_root (view value.now) }
 {
-    name.iter().all(|b| !(*b == b'"' || *b == b'\\'))
-}
-
-fn after<'a>(text: &'a [u8], prefix: &[u8]) -> Option<&'a [u8]>
-    ensures { option_map (λ x. x.now) result ≡ after_prefix prefix.now text.now }
-{
-    text.strip_prefix(prefix)
-}
-
-fn before<'a>(text: &'a [u8], suffix: &[u8]) -> Option<&'a [u8]>
-    ensures { option_map (λ x. x.now) result ≡ before_suffix suffix.now text.now }
-{
-    text.strip_suffix(suffix)
-}
-
-fn past_first_line(text: &[u8]) -> &[u8]
-    ensures { result.now ≡ past_reloading text.now }
-{
-    match after(text, b"reloading = true\n".as_slice()) {
-        Some(rest) => rest,
-        None => text,
+    match value.as_table() {
+        Some(table) => has_only(table, &["path"]),
+        None => false,
     }
 }
 
-// A root's path as a text.
-fn root_text(name: &[u8]) -> Option<&str>
-    ensures { option_map (λ x. x.now) result ≡ root_text name.now }
+#[tactic(auto, using(crate::proofs::ConfigurationLemmas::one_root, crate::proofs::ConfigurationLemmas::more_roots))]
+fn is_one_root(values: &[Value]) -> bool
+    ensures { result ≡ defined.is_one_root (items_view values.now) }
 {
-    match std::str::from_utf8(name) {
-        Ok(text) if is_root(name) => Some(text),
-        Ok(_) => None,
-        Err(_) => None,
+    let Some((value, rest)) = values.split_first() else {
+        return false;
+    };
+    if rest.is_empty() {
+        is_plain_root(value)
+    } else {
+        false
     }
 }
 
-fn root_in(text: &[u8]) -> Option<&str>
-    ensures { option_map (λ x. x.now) result ≡ root_name text.now }
+fn are_roots_built(value: &Value) -> bool
+    ensures { result ≡ defined.are_roots_built (view value.now) }
 {
-    let rest = after(past_first_line(text), b"[[root]]\npath = \"".as_slice())?;
-    let name = before(rest, b"\"\n".as_slice())?;
-    root_text(name)
+    match value.as_array() {
+        Some(values) => is_one_root(values.as_slice()),
+        None => false,
+    }
 }
 
-fn root_of(alloc: Global, text: &[u8]) -> Result<Path, StartFault>
-    ensures gives { Gives (λ path. path) result (root_of text.now) }
+// Whether all that the configuration has is built so far.
+fn is_built(table: &Table) -> bool
+    ensures { result ≡ defined.is_built (table_view table.now) }
+{
+    if !has_only(table, &["root", "reloading"]) {
+        return false;
+    }
+    match value_at(table, "root") {
+        Some(value) => are_roots_built(value),
+        None => true,
+    }
+}
+
+fn first_path(alloc: Global, roots: &[Root]) -> Result<Option<Path>, AllocError>
+    ensures { (names : List Text) → IfOk result (λ path. path ≡ defined.first_path (map (root_seen names) roots.now)) }
+{
+    match roots.first() {
+        Some(root) => Ok(Some(root.path.copy(alloc)?)),
+        None => Ok(None),
+    }
+}
+
+// The root of an accepted configuration, if it has one, where all that it has is built so far.
+fn built_root(alloc: Global, table: &Table, config: &Config) -> Result<Option<Path>, StartFault>
+    ensures gives { (path : paths.Path) (names : List Text) → Gives (λ root. root) result
+        (defined.built_root (table_view table.now) (config_seen path names config.now)) }
     ensures kept { KeepsFolder result }
 {
-    let Some(name) = root_in(text) else {
-        return Err(refused(Refusal::OtherConfiguration));
-    };
-    match path_from(alloc, name)? {
-        Some(path) => Ok(path),
-        None => Err(refused(Refusal::OtherConfiguration)),
+    if is_built(table) {
+        Ok(first_path(alloc, &config.layout.roots)?)
+    } else {
+        Err(refused(Refusal::OtherConfiguration))
     }
 }
 
-/// The root that the configuration names.
+fn root_in(alloc: Global, table: &Table) -> Result<Option<Path>, StartFault>
+    ensures gives { (path : paths.Path) → Gives (λ root. root) result (defined.root_in path (table_view table.now)) }
+    ensures kept { KeepsFolder result }
+{
+    let mut names = Names::new(alloc)?;
+    match read_table(alloc, table, &mut names) {
+        Ok(config) => built_root(alloc, table, &config),
+        Err(ReadFault::Refused(fault)) => Err(refused(Refusal::BadConfiguration(fault))),
+        Err(ReadFault::Memory) => Err(Fault::Memory),
+    }
+}
+
+fn root_of(alloc: Global, bytes: &[u8]) -> Result<Option<Path>, StartFault>
+    ensures gives { (path : paths.Path) → Gives (λ root. root) result (defined.root_of path bytes.now) }
+    ensures kept { KeepsFolder result }
+{
+    match table_of(alloc, bytes) {
+        Ok(table) => root_in(alloc, &table),
+        Err(ReadFault::Refused(fault)) => Err(refused(Refusal::BadConfiguration(fault))),
+        Err(ReadFault::Memory) => Err(Fault::Memory),
+    }
+}
+
+/// The root that the configuration names, if it names one.
 pub(crate) fn root_at<F: Folder>(
     alloc: Global,
     folder: &mut F,
     path: &Path,
-) -> Result<Path, StartFault>
+) -> Result<Option<Path>, StartFault>
     ensures told { IfSome (F.listing folder.old) (λ l. Gives (λ root. root) result (root_at path.now l)) }
     ensures same { F.listing folder.new ≡ F.listing folder.old }
     ensures cause { CountsStart result (F.faults folder.old) (F.faults folder.new) }

@@ -6,6 +6,7 @@ ghost use Rattle.zw_top.specs.Refusal.{refusal_seen};
 
 use std::alloc::{AllocError, Global};
 use zw_base::Fault;
+use zw_config::ConfigFault;
 use zw_path::Path;
 
 /// Why a configuration or a tree is refused.
@@ -13,7 +14,9 @@ use zw_path::Path;
 pub(crate) enum Refusal {
     /// There is no configuration.
     NoConfiguration,
-    /// The configuration is none that is built so far.
+    /// The configuration is refused.
+    BadConfiguration(ConfigFault),
+    /// The configuration has what is not built so far.
     OtherConfiguration,
     /// The file is none that is carried out so far.
     OtherFile(Path),
@@ -52,6 +55,7 @@ pub(crate) fn line_of(alloc: Global, refusal: &Refusal) -> Result<String, AllocE
 {
     match refusal {
         Refusal::NoConfiguration => String::from_str(alloc, "config: missing"),
+        Refusal::BadConfiguration(fault) => with_text(alloc, "config: ", &fault.text(alloc)?),
         Refusal::OtherConfiguration => String::from_str(alloc, "config: not built"),
         Refusal::OtherFile(path) => with_path(alloc, "not built: ", path),
         Refusal::LongListing => String::from_str(alloc, "limit: listing"),
@@ -61,11 +65,16 @@ pub(crate) fn line_of(alloc: Global, refusal: &Refusal) -> Result<String, AllocE
     }
 }
 
+fn with_text(alloc: Global, front: &str, text: &str) -> Result<String, AllocError>
+    ensures { IfOk result (λ line. string_bytes line ≡ front.now ++ text.now) }
+{
+    let mut line = String::from_str(alloc, front)?;
+    line.push_str(text)?;
+    Ok(line)
+}
+
 fn with_path(alloc: Global, front: &str, path: &Path) -> Result<String, AllocError>
     ensures { IfOk result (λ line. string_bytes line ≡ front.now ++ path_text path.now) }
 {
-    let text = path.text(alloc)?;
-    let mut line = String::from_str(alloc, front)?;
-    line.push_str(&text)?;
-    Ok(line)
+    with_text(alloc, front, &path.text(alloc)?)
 }

@@ -25,6 +25,7 @@ fn status_of(refusal: &Refusal) -> Status
 {
     match refusal {
         Refusal::NoConfiguration => Status::Config,
+        Refusal::BadConfiguration(_) => Status::Config,
         Refusal::OtherConfiguration => Status::Config,
         Refusal::OtherFile(_) => Status::Config,
         Refusal::LongListing => Status::Limit,

@@ -305,21 +305,87 @@ fn refusals(rt: HostRuntime) -> Result<(), Fail> {
     Ok(())
 }
 
+// A configuration that is refused, with its line; what is not built so far is told last.
 #[test]
-fn configurations(rt: HostRuntime) -> Result<(), Fail> {
+fn refused_configurations(rt: HostRuntime) -> Result<(), Fail> {
     let configurations = [
         ("", "config: missing\n"),
-        ("reloading = true\n", "config: not built\n"),
-        ("[[root]]\npath = \"../m\"\n", "config: not built\n"),
-        ("[[root]]\npath = \"m\\n\"\n", "config: not built\n"),
-        ("[[root]]\npath = \"\"\n", "config: not built\n"),
-        ("[[root]]\npath = \"m\"", "config: not built\n"),
+        ("reloading\n", "config: not TOML\n"),
+        ("rootz = 1\n", "config: unknown key rootz\n"),
+        (
+            "[[root]]\npath = \"../m\"\n",
+            "config: bad path root.path\n",
+        ),
+        ("[[root]]\npath = \"\"\n", "config: bad path root.path\n"),
+        (
+            "[[root]]\npath = \"m\"\n[[root]]\npath = \"m\"\n",
+            "config: double root m\n",
+        ),
+        (
+            "[[callback]]\non = \"setup\"\ntarget = \"A\"\nrun = \"1\"\n",
+            "config: wrong kind callback.target\n",
+        ),
+        (
+            "ignore = []\nboot = \"../b.rb\"\n",
+            "config: bad path boot\n",
+        ),
+        ("ignore = []\n", "config: not built\n"),
+        ("eager = false\n", "config: not built\n"),
+        ("root = []\n", "config: not built\n"),
+        (
+            "[[root]]\npath = \"m\"\nnamespace = \"Object\"\n",
+            "config: not built\n",
+        ),
+        (
+            "[[root]]\npath = \"m\"\n[[root]]\npath = \"n\"\n",
+            "config: not built\n",
+        ),
     ];
     for (configuration, output) in configurations {
         let row = Row {
             configuration,
             output,
             status: Status::Config,
+            ..PLAIN
+        };
+        try_row(&rt, rt.alloc(), &row)?;
+    }
+    // Flags are not built either, and are told after what the configuration has.
+    let flags = Row {
+        words: "--log zw.toml",
+        configuration: "rootz = 1\n",
+        output: "config: unknown key rootz\n",
+        status: Status::Config,
+        ..PLAIN
+    };
+    try_row(&rt, rt.alloc(), &flags)
+}
+
+// A configuration as TOML allows it to be written. Without a root no file is visible.
+#[test]
+fn accepted_configurations(rt: HostRuntime) -> Result<(), Fail> {
+    let configurations = [
+        ("[[root]]\npath = \"m\"", "= 40\n"),
+        ("reloading = false\n[[root]]\npath = \"m\"\n", "= 40\n"),
+        (
+            "# roots\nroot = [{ path = 'm' }]\nreloading = true\n",
+            "= 40\n",
+        ),
+        ("\"root\" = [\n { path = \"\\u006d\" }, # m\n]\n", "= 40\n"),
+        (
+            "[[root]]\npath = \"n\"\n",
+            "! NameError: uninitialized constant User\n",
+        ),
+        (
+            "reloading = true\n",
+            "! NameError: uninitialized constant User\n",
+        ),
+        ("# none\n", "! NameError: uninitialized constant User\n"),
+    ];
+    for (configuration, output) in configurations {
+        let row = Row {
+            configuration,
+            output,
             ..PLAIN
         };
         try_row(&rt, rt.alloc(), &row)?;
