@@ -2,6 +2,7 @@
 use crate::told::{bytes_of, reads, told};
 use std::alloc::Global;
 use std::test::Fail;
+use zw_cmd::BadReason;
 use zw_io::MemSource;
 
 #[test]
@@ -23,6 +24,22 @@ fn the_first_refusal_is_told(rt: HostRuntime) -> Result<(), Fail> {
     ];
     for (stream, wanted) in rows {
         reads(&rt, rt.alloc(), stream, wanted)?;
+    }
+    Ok(())
+}
+
+#[test]
+fn refusals_print_their_lines(rt: HostRuntime) -> Result<(), Fail> {
+    let rows = [
+        (BadReason::LineTooLong, "? line too long"),
+        (BadReason::NotUtf8, "? not UTF-8"),
+        (BadReason::Unknown, "? unknown command"),
+        (BadReason::BadArgument, "? bad argument"),
+        (BadReason::InputEnded, "? input ended"),
+    ];
+    for (reason, wanted) in rows {
+        let text = format!(in rt.alloc(); "{reason}")?;
+        assert!(rt; text.as_str() == wanted && reason.text() == wanted);
     }
     Ok(())
 }
