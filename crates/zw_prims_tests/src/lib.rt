@@ -1,0 +1,13 @@
+//! Tests of primitive methods through their public calls, a module for each class. They stand apart from the crate, so
+//! that no crate is proved a second time for its tests. The expected answers were written down by hand, or by Ruby 3.1
+//! where the language answers as Ruby does.
+#![tactic(auto)]
+
+#[cfg(test)]
+mod integer;
+#[cfg(test)]
+mod names;
+#[cfg(test)]
+mod nil;
+#[cfg(test)]
+mod outcome;
