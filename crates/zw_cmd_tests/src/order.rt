@@ -1,6 +1,7 @@
 //! Of several refusals the first is told.
 use crate::told::{bytes_of, reads, told};
 use std::alloc::Global;
+use std::process::Abort;
 use std::test::Fail;
 use zw_cmd::BadReason;
 use zw_io::MemSource;
@@ -78,6 +79,20 @@ const fn line(byte: u8, count: usize, wanted: &'static str) -> Long {
     }
 }
 
+fn try_long(rt: &impl Abort, alloc: Global, row: Long) -> Result<(), Fail> {
+    let bytes = stream_of(alloc, row)?;
+    let mut source = MemSource::new(bytes, 4096, Vec::new(alloc));
+    let (text, fault) = told(rt, alloc, &mut source)?;
+    assert!(rt;
+        text.as_str() == row.wanted,
+        "at {:?} and {:?}",
+        row.before,
+        row.after
+    );
+    assert!(rt; fault == None, "at {:?} and {:?}", row.before, row.after);
+    Ok(())
+}
+
 #[test]
 fn a_line_that_is_too_long_comes_first(rt: HostRuntime) -> Result<(), Fail> {
     let rows = [
@@ -96,7 +111,17 @@ fn a_line_that_is_too_long_comes_first(rt: HostRuntime) -> Result<(), Fail> {
             before: "put a",
             ..line(b'1', MOST, "? line too long|map|")
         },
-        // A line of `runs` before one that is not UTF-8, and before the end of input.
+    ];
+    for row in rows {
+        try_long(&rt, rt.alloc(), row)?;
+    }
+    Ok(())
+}
+
+// A line of `runs` before one that is not UTF-8, and before the end of input.
+#[test]
+fn a_line_of_runs_that_is_too_long_comes_first(rt: HostRuntime) -> Result<(), Fail> {
+    let rows = [
         Long {
             before: "runs 2\n~\n",
             ..line(b'1', MOST + 1, "? line too long|map|")
@@ -112,16 +137,7 @@ fn a_line_that_is_too_long_comes_first(rt: HostRuntime) -> Result<(), Fail> {
         },
     ];
     for row in rows {
-        let bytes = stream_of(rt.alloc(), row)?;
-        let mut source = MemSource::new(bytes, 4096, Vec::new(rt.alloc()));
-        let (text, fault) = told(&rt, rt.alloc(), &mut source)?;
-        assert!(rt;
-            text.as_str() == row.wanted,
-            "at {:?} and {:?}",
-            row.before,
-            row.after
-        );
-        assert!(rt; fault == None, "at {:?} and {:?}", row.before, row.after);
+        try_long(&rt, rt.alloc(), row)?;
     }
     Ok(())
 }
