@@ -1,4 +1,4 @@
-# Writes the tables of src/integer.rt: what Ruby answers to methods of Integer, where the language says what Ruby does.
+# Writes the tables of src/integer_table.rt: what Ruby answers to methods of Integer, where the language says what Ruby does.
 # A result outside 64 bits is the language's own RangeError.
 I64 = (-2**63..2**63 - 1)
 EDGES = [0, 1, -1, 2, -2, 3, -3, 7, -7, 10, 2**63 - 1, -2**63]

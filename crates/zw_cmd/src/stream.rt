@@ -152,8 +152,8 @@ fn read_command<S: Source>(alloc: Global, lines: &mut Lines<S>) -> Result<Got, L
 }
 
 /// The next command of the stream, what is wrong with it, or the end. Blank lines and comments are passed over. A
-/// refusal of the lines is answered again by every later call. A command is answered before the line behind it, or
-/// behind the lines that belong to it, is asked for.
+/// refusal of the lines is answered again by every later call. No clause says that the source is not asked for more
+/// while the command's lines stand whole in the bytes that are held.
 pub fn next_command<S: Source>(alloc: Global, lines: &mut Lines<S>) -> Result<Got, LinesFault>
     ensures same_source { lines.new.source.ghost_name ≡ lines.old.source.ghost_name }
     // What is read is what is defined.

@@ -6,6 +6,8 @@
 #[cfg(test)]
 mod integer;
 #[cfg(test)]
+mod integer_table;
+#[cfg(test)]
 mod names;
 #[cfg(test)]
 mod nil;

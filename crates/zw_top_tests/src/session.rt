@@ -305,43 +305,44 @@ fn refusals(rt: HostRuntime) -> Result<(), Fail> {
     Ok(())
 }
 
-// A configuration that is refused, with its line; what is not built so far is told last.
+/// Configurations that are refused, with their lines; what is not built so far is told last.
+const REFUSED: [(&str, &str); 13] = [
+    ("", "config: missing\n"),
+    ("reloading\n", "config: not TOML\n"),
+    ("rootz = 1\n", "config: unknown key rootz\n"),
+    (
+        "[[root]]\npath = \"../m\"\n",
+        "config: bad path root.path\n",
+    ),
+    ("[[root]]\npath = \"\"\n", "config: bad path root.path\n"),
+    (
+        "[[root]]\npath = \"m\"\n[[root]]\npath = \"m\"\n",
+        "config: double root m\n",
+    ),
+    (
+        "[[callback]]\non = \"setup\"\ntarget = \"A\"\nrun = \"1\"\n",
+        "config: wrong kind callback.target\n",
+    ),
+    (
+        "ignore = []\nboot = \"../b.rb\"\n",
+        "config: bad path boot\n",
+    ),
+    ("ignore = []\n", "config: not built\n"),
+    ("eager = false\n", "config: not built\n"),
+    ("root = []\n", "config: not built\n"),
+    (
+        "[[root]]\npath = \"m\"\nnamespace = \"Object\"\n",
+        "config: not built\n",
+    ),
+    (
+        "[[root]]\npath = \"m\"\n[[root]]\npath = \"n\"\n",
+        "config: not built\n",
+    ),
+];
+
 #[test]
 fn refused_configurations(rt: HostRuntime) -> Result<(), Fail> {
-    let configurations = [
-        ("", "config: missing\n"),
-        ("reloading\n", "config: not TOML\n"),
-        ("rootz = 1\n", "config: unknown key rootz\n"),
-        (
-            "[[root]]\npath = \"../m\"\n",
-            "config: bad path root.path\n",
-        ),
-        ("[[root]]\npath = \"\"\n", "config: bad path root.path\n"),
-        (
-            "[[root]]\npath = \"m\"\n[[root]]\npath = \"m\"\n",
-            "config: double root m\n",
-        ),
-        (
-            "[[callback]]\non = \"setup\"\ntarget = \"A\"\nrun = \"1\"\n",
-            "config: wrong kind callback.target\n",
-        ),
-        (
-            "ignore = []\nboot = \"../b.rb\"\n",
-            "config: bad path boot\n",
-        ),
-        ("ignore = []\n", "config: not built\n"),
-        ("eager = false\n", "config: not built\n"),
-        ("root = []\n", "config: not built\n"),
-        (
-            "[[root]]\npath = \"m\"\nnamespace = \"Object\"\n",
-            "config: not built\n",
-        ),
-        (
-            "[[root]]\npath = \"m\"\n[[root]]\npath = \"n\"\n",
-            "config: not built\n",
-        ),
-    ];
-    for (configuration, output) in configurations {
+    for (configuration, output) in REFUSED {
         let row = Row {
             configuration,
             output,
