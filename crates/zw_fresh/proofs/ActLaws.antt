@@ -8,6 +8,7 @@ use Rattle.zw_def_world.specs.Frame.{Frame}
 use Rattle.zw_def_world.specs.Act.{Point, End, Flow, gave, raised, broken, skipped, returned, out_of_steps, too_deep, lost, Act, ends, gives, ◌>>>◌, ◌>>=◌, ◌>>◌, go_on, read, in_world, reading, in_frame, writes, framed, paid, spending}
 use Rattle.zw_def_world.proofs.EvolutionLaws.{Keeps, ends_keeps, then_keeps, go_on_keeps, in_world_keeps, reading_keeps, in_frame_keeps, framed_keeps, paid_keeps, writes_keeps}
 use Rattle.zw_def_world.proofs.EvaluationLaws.{spending_evolves}
+use Rattle.zw_fresh.specs.CalmCode.{PlainRunning}
 use Rattle.zw_fresh.specs.Renaming.{ren, ren_flow}
 use Rattle.zw_fresh.proofs.GrowingLaws.{growing}
 use Rattle.zw_fresh.specs.Alike.{Setting, When, Renamed, Found, Worlds, Frames, Points, IsOver, Short, EndsAlike, Verdict, Ends, Acts}
@@ -27,7 +28,7 @@ pub record Alike {calm : Bool} (S : Setting calm) (old : Text → Bool) (m m' : 
 
 -- ---- verdicts
 
-choose : {A B : Type 0} (calm : Bool) → A → B → When calm A B
+pub choose : {A B : Type 0} (calm : Bool) → A → B → When calm A B
 choose true a b = a
 choose false a b = b
 
@@ -172,17 +173,22 @@ module _ {calm : Bool} {S : Setting calm} {old : Text → Bool} where
 
   -- ---- what is read
 
-  pub read_alike : {X Y : Type 0} (g : X → Y) (o : Option X) (o' : Option Y) {k : X → Act} {k' : Y → Act}
-      → Renamed calm g o o' → ((x : X) → Alike S old (k x) (k' (g x))) → ((y : Y) → Spends (k' y))
-      → (p p' : Point) → Points calm S old p p' → Ends calm S old (read o k p) (read o' k' p')
-  read_alike g (Some x) o' {k} {k'} e b l p p' P =
-      subst (λ z. Ends calm S old (k x p) (read z k' p')) (sym e) ((b x).acts p p' P)
-  read_alike g None o' {k} {k'} e b l p p' P = at calm S e P
+  -- nothing is found here
+  none_read : {X Y : Type 0} (g : X → Y) (k' : Y → Act) (o' : Option Y) → Renamed calm g None o' → (p p' : Point)
+      → Points calm S old p p' → Ends calm S old (ends lost p) (read o' k' p')
+  none_read {X} {Y} g k' o' e p p' P = at calm S e P
     where
       at : (c : Bool) (T : Setting c) → Renamed c g None o' → Points c T old p p'
           → Ends c T old (ends lost p) (read o' k' p')
       at true T e Q = λ inside. tt
       at false T e Q = subst (λ z. Ends false T old (ends lost p) (read z k' p')) (sym e) (ends_at false T old lost p p' Q)
+
+  pub read_alike : {X Y : Type 0} (g : X → Y) (o : Option X) (o' : Option Y) {k : X → Act} {k' : Y → Act}
+      → Renamed calm g o o' → ((x : X) → Alike S old (k x) (k' (g x))) → ((y : Y) → Spends (k' y))
+      → (p p' : Point) → Points calm S old p p' → Ends calm S old (read o k p) (read o' k' p')
+  read_alike g (Some x) o' {k} {k'} e b l p p' P =
+      subst (λ z. Ends calm S old (k x p) (read z k' p')) (sym e) ((b x).acts p p' P)
+  read_alike g None o' {k} {k'} e b l p p' P = none_read g k' o' e p p' P
 
   pub reading_alike : {X Y : Type 0} {g : X → Y} {f : World → Option X} {f' : World → Option Y} {k : X → Act} {k' : Y → Act}
       → ((w w' : World) → Worlds calm S w w' → Found calm g (f w) (f' w')) → ((x : X) → Alike S old (k x) (k' (g x)))
@@ -192,6 +198,29 @@ module _ {calm : Bool} {S : Setting calm} {old : Text → Bool} where
     grows = reading_keeps f (λ x. (b x).grows);
     spends = reading_keeps f' l;
   }
+
+  -- where what is found here is known to be as the rest asks for
+  pub reading_known : {X Y : Type 0} {g : X → Y} {f : World → Option X} {f' : World → Option Y} {k : X → Act} {k' : Y → Act}
+      (Q : X → Type 0) → ((w w' : World) → Worlds calm S w w' → Found calm g (f w) (f' w'))
+      → ((w w' : World) → Worlds calm S w w' → (x : X) → f w ≡ Some x → Q x)
+      → ((x : X) → Q x → Alike S old (k x) (k' (g x))) → ((x : X) → Grows (k x)) → ((y : Y) → Spends (k' y))
+      → Alike S old (reading f k) (reading f' k')
+  reading_known {X} {Y} {g} {f} {f'} {k} {k'} Q h q b grows l = record {
+    acts = λ p p' P. at p p' P (f p.world) refl;
+    grows = reading_keeps f grows;
+    spends = reading_keeps f' l;
+  }
+    where
+      at : (p p' : Point) → Points calm S old p p' → (o : Option X) → f p.world ≡ o
+          → Ends calm S old (read (f p.world) k p) (read (f' p'.world) k' p')
+      at p p' P None e =
+          subst (λ o. Ends calm S old (read o k p) (read (f' p'.world) k' p')) (sym e)
+          (none_read g k' (f' p'.world) (subst (λ o. Renamed calm g o (f' p'.world)) e (h p.world p'.world P.world).so) p p' P)
+      at p p' P (Some x) e =
+          subst (λ o. Ends calm S old (read o k p) (read (f' p'.world) k' p')) (sym e)
+          (subst (λ o. Ends calm S old (k x p) (read o k' p'))
+          (sym (subst (λ o. Renamed calm g o (f' p'.world)) e (h p.world p'.world P.world).so))
+          ((b x (q p.world p'.world P.world x e)).acts p p' P))
 
   pub in_world_alike : {X Y : Type 0} (g : X → Y) {f : World → X} {f' : World → Y} {k : X → Act} {k' : Y → Act}
       → ((w w' : World) → Worlds calm S w w' → f' w' ≡ g (f w)) → ((x : X) → Alike S old (k x) (k' (g x)))
@@ -215,20 +244,20 @@ module _ {calm : Bool} {S : Setting calm} {old : Text → Bool} where
 
   -- ---- frames and lines
 
-  pub framed_alike : {new : Text → Bool} {a b : Frame} {m m' : Act} → Frames S.lift new a b → Alike S new m m'
-      → Alike S old (framed a m) (framed b m')
-  framed_alike {new} {a} {b} {m} {m'} F h = record { acts = at; grows = framed_keeps a h.grows; spends = framed_keeps b h.spends }
+  pub framed_alike : {new : Text → Bool} {a b : Frame} {m m' : Act} → Frames S.lift new a b
+      → PlainRunning calm a.running → Alike S new m m' → Alike S old (framed a m) (framed b m')
+  framed_alike {new} {a} {b} {m} {m'} F plain h = record { acts = at; grows = framed_keeps a h.grows; spends = framed_keeps b h.spends }
     where
       at : Acts calm S old (framed a m) (framed b m')
       at p p' P = λ inside. verdict_map calm (m (record p { frame = a })).flow (λ z. z) back
           (h.acts (record p { frame = a }) (record p' { frame = b })
-          (record { world = P.world; frame = F; left = P.left; out = P.out }) inside)
+          (record { world = P.world; frame = F; plain = plain; left = P.left; out = P.out }) inside)
         where
           back : EndsAlike calm S new (m (record p { frame = a })) (m' (record p' { frame = b }))
               → EndsAlike calm S old (framed a m p) (framed b m' p')
           back A = record {
             flow = A.flow;
-            at = record { world = A.at.world; frame = P.frame; left = A.at.left; out = A.at.out };
+            at = record { world = A.at.world; frame = P.frame; plain = P.plain; left = A.at.left; out = A.at.out };
           }
 
   pub writes_alike : (line : Text) → Alike S old (writes line) (writes line)
@@ -241,6 +270,7 @@ module _ {calm : Bool} {S : Setting calm} {old : Text → Bool} where
       at p p' P = (gives_alike _).acts _ _ (record {
         world = P.world;
         frame = P.frame;
+        plain = P.plain;
         left = P.left;
         out = (
           P.out.0 ++ line ++ codes "\n",
@@ -289,4 +319,4 @@ module _ {calm : Bool} {S : Setting calm} {old : Text → Bool} where
               let le = ltb-false p.left n e in
               let le' = ltb-false p'.left n e' in
               let d = P.left in
-              h (record { world = P.world; frame = P.frame; left = omega (arith, le, le', d); out = P.out })
+              h (record { world = P.world; frame = P.frame; plain = P.plain; left = omega (arith, le, le', d); out = P.out })

@@ -35,7 +35,7 @@ use Rattle.zw_fresh.proofs.MethodLaws.{as_module_same}
 use Rattle.zw_fresh.proofs.FrameLaws.{top_frames}
 use Rattle.zw_fresh.proofs.LoadLaws.{runs_alike}
 use Rattle.zw_fresh.proofs.NamingLaws.{parsed_free}
-use Rattle.zw_fresh.proofs.EvaluationLaws.{run_evaluates}
+use Rattle.zw_fresh.proofs.EvaluationLaws.{evaluates_plainly}
 use Rattle.zw_fresh.proofs.FreshLaws.{same_test}
 use Rattle.zw_fresh.proofs.BootLaws.{boot_end, core_alike, self_alike}
 use Rattle.zw_fresh.proofs.CoreLaws.{first_setups, world_past, core_there}
@@ -200,8 +200,9 @@ boot_tables setting budget fault_text parsed =
     let P : Points false S no_old p p = record {
       world = core_alike S setting;
       frame = top_frames S [];
+      plain = tt;
       left = refl;
       out = ([], refl, refl);
     } in
     frozen_hold w (tables_hold w of_boot core
-    (self_alike S (runs_alike (run_evaluates S budget 0) no_old fault_text parsed (parsed_free parsed)) p P (λ i h. h)))
+    (self_alike S (runs_alike (evaluates_plainly S budget 0) no_old fault_text parsed (parsed_free parsed)) p P (λ i h. h)))

@@ -12,8 +12,9 @@ use Rattle.zw_def_world.specs.Meeting.{with_meeting}
 use Rattle.zw_def_world.specs.Frame.{Frame}
 use Rattle.zw_def_world.specs.Act.{Point, Act, gave, lost, read, in_module, in_object, changing, changing_frame, changing_module, changing_object}
 use Rattle.zw_def_world.proofs.EvolutionLaws.{in_module_keeps, in_object_keeps}
+use Rattle.zw_fresh.specs.CalmCode.{PlainRunning}
 use Rattle.zw_fresh.specs.Renaming.{lifted, lifted_object, ren, ren_object}
-use Rattle.zw_fresh.specs.Alike.{NoneLost, Setting, LeavesConstants, Met, Modules, module_with, shows, Objects, Worlds, Frames, Points, Ends}
+use Rattle.zw_fresh.specs.Alike.{NoneLost, Setting, ChangesVariables, Met, Modules, module_with, shows, Objects, Worlds, Frames, Points, Ends}
 use Rattle.zw_fresh.proofs.GrowingLaws.{changed_there}
 use Rattle.zw_fresh.proofs.ActLaws.{Spends, Alike, ends_at}
 use Rattle.zw_fresh.proofs.FoundLaws.{module_like}
@@ -70,6 +71,7 @@ module _ {calm : Bool} {S : Setting calm} {old : Text → Bool} where
         (record {
           world = same p.world p'.world P.world;
           frame = P.frame;
+          plain = P.plain;
           left = ap (λ s. p'.left + S.owed s) (states p.world) ∙ P.left;
           out = P.out;
         });
@@ -78,10 +80,16 @@ module _ {calm : Bool} {S : Setting calm} {old : Text → Bool} where
   }
 
   pub changing_frame_alike : (g g' : Frame → Frame) → ((a b : Frame) → Frames S.lift old a b → Frames S.lift old (g a) (g' b))
-      → (v : Value) → Alike S old (changing_frame g v) (changing_frame g' (ren S.lift v))
-  changing_frame_alike g g' same v = record {
+      → ((a : Frame) → (g a).running ≡ a.running) → (v : Value) → Alike S old (changing_frame g v) (changing_frame g' (ren S.lift v))
+  changing_frame_alike g g' same runs v = record {
     acts = λ p p' P. ends_at calm S old (gave v) (record p { frame = g p.frame }) (record p' { frame = g' p'.frame })
-        (record { world = P.world; frame = same p.frame p'.frame P.frame; left = P.left; out = P.out });
+        (record {
+          world = P.world;
+          frame = same p.frame p'.frame P.frame;
+          plain = subst (PlainRunning calm) (sym (runs p.frame)) P.plain;
+          left = P.left;
+          out = P.out;
+        });
     grows = record { kept = λ p i h. h };
     spends = record { kept = λ p. le_refl p.left };
   }
@@ -93,8 +101,8 @@ module _ {calm : Bool} {S : Setting calm} {old : Text → Bool} where
       (λ o. changing_alike (at_object i g) (at_object (lifted_object S.lift i) g')
       (λ w w' W. object_same W i g g' same) (λ w. refl) (λ w j h. h) v) (λ o. changing_spends _ _)
 
-  -- a change of a module that leaves its constants and its home
-  pub changing_variables_alike : (i : Id) (g g' : Module → Module) → LeavesConstants g → LeavesConstants g'
+  -- a change of a module's variables alone
+  pub changing_variables_alike : (i : Id) (g g' : Module → Module) → ChangesVariables g → ChangesVariables g'
       → ((m : Module) (c : Table Value) → g' (module_with S.lift c m) ≡ module_with S.lift c (g m)) → (v : Value)
       → Alike S old (changing_module i g v) (changing_module (lifted S.lift i) g' (ren S.lift v))
   changing_variables_alike i g g' l l' same v = in_module_alike i _ _

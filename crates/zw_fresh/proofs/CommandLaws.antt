@@ -16,7 +16,7 @@ use Rattle.zw_fresh.specs.Alike.{Setting, Worlds, EndsAlike}
 use Rattle.zw_fresh.specs.Naming.{no_old}
 use Rattle.zw_fresh.specs.Sessions.{Sessions}
 use Rattle.zw_fresh.proofs.ActLaws.{Alike}
-use Rattle.zw_fresh.proofs.EvaluationLaws.{run_evaluates}
+use Rattle.zw_fresh.proofs.EvaluationLaws.{evaluates_plainly}
 use Rattle.zw_fresh.proofs.SessionLaws.{line_of_end_same, with_line_same, with_steps_same, steps_same}
 use Rattle.zw_fresh.proofs.SettingUpLaws.{value_same, at_end_same, acted_same}
 use Rattle.zw_fresh.proofs.EagerLaws.{loads_all_alike}
@@ -35,7 +35,7 @@ module _ {S : Setting false} {old : Text → Bool} where
   loading_same : (keys : List Key) (s s' : Session) → Sessions S old s s'
       → Alike S no_old (loads_all (evaluates s) keys) (loads_all (evaluates s') keys)
   loading_same keys s s' P = subst (λ settings. Alike S no_old (loads_all (run s.settings.budget 0) keys)
-      (loads_all (run settings.budget 0) keys)) (sym P.settings) (loads_all_alike (run_evaluates S s.settings.budget 0) keys)
+      (loads_all (run settings.budget 0) keys)) (sym P.settings) (loads_all_alike (evaluates_plainly S s.settings.budget 0) keys)
 
   pub eager_same : (keys : List Key) (s s' : Session) → Sessions S old s s'
       → Sessions S old (eager_answer keys s) (eager_answer keys s')

@@ -21,6 +21,7 @@ use Rattle.zw_def_world.proofs.EvolutionLaws.{both_keep, in_world_keeps, in_fram
 use Rattle.zw_def_world.proofs.FaultLaws.{fails_keeps}
 use Rattle.zw_def_world.proofs.DefinitionLaws.{opens_home_keeps, defines_in_keeps, defines_singleton_in_keeps, on_module_or_fault_keeps, runs_class_body_keeps, makes_at_home_keeps, reopens_class_keeps, opens_class_keeps, class_in_keeps, superclass_fault_keeps, tests_superclass_keeps, no_module_fault_keeps, opens_module_keeps}
 use Rattle.zw_fresh.specs.Renaming.{lifted, lifted_all, ren, ren_method, ren_module}
+use Rattle.zw_fresh.specs.CalmCode.{PlainRunning}
 use Rattle.zw_fresh.specs.Alike.{Setting, Frames, Worlds}
 use Rattle.zw_fresh.specs.Naming.{PerhapsNamesNone, BaseNamesNone, no_old}
 use Rattle.zw_fresh.proofs.ActLaws.{Grows, Spends, Alike, gives_alike, both_alike, on_alike, if_alike, if_same_alike, in_world_alike, in_frame_alike, reading_alike, framed_alike}
@@ -34,16 +35,31 @@ use Rattle.zw_fresh.proofs.CallLaws.{Evaluates, statements_alike}
 use Rattle.zw_fresh.proofs.LoadLaws.{opens_alike, unless_wrong_alike, makes_module_alike}
 use Rattle.zw_fresh.proofs.LookUpLaws.{asks_alike}
 use Rattle.zw_fresh.proofs.NamingLaws.{all_free}
+use Rattle.zw_fresh.proofs.PlainLaws.{always_plain, all_plain}
 
 -- what a whole frame tells
 pub with_frame_alike : {calm : Bool} {S : Setting calm} {old : Text → Bool} {k k' : Frame → Act}
-    → ((a b : Frame) → Frames S.lift old a b → Alike S old (k a) (k' b)) → ((a : Frame) → Grows (k a))
-    → ((b : Frame) → Spends (k' b)) → Alike S old (in_frame (λ f. f) k) (in_frame (λ f. f) k')
+    → ((a b : Frame) → Frames S.lift old a b → PlainRunning calm a.running → Alike S old (k a) (k' b))
+    → ((a : Frame) → Grows (k a)) → ((b : Frame) → Spends (k' b)) → Alike S old (in_frame (λ f. f) k) (in_frame (λ f. f) k')
 with_frame_alike {calm} {S} {old} {k} {k'} b g l = record {
-  acts = λ p p' P. (b p.frame p'.frame P.frame).acts p p' P;
+  acts = λ p p' P. (b p.frame p'.frame P.frame P.plain).acts p p' P;
   grows = in_frame_keeps (λ f. f) g;
   spends = in_frame_keeps (λ f. f) l;
 }
+
+-- ---- modules, or a fault
+
+module _ {calm : Bool} {S : Setting calm} {old : Text → Bool} where
+  pub on_module_alike : (k k' : Id → Act) → ((i : Id) → Alike S old (k i) (k' (lifted S.lift i))) → (v : Value)
+      → Alike S old (on_module_or_fault k v) (on_module_or_fault k' (ren S.lift v))
+  on_module_alike k k' b nil = no_module_alike nil
+  on_module_alike k k' b (truth bit) = no_module_alike (truth bit)
+  on_module_alike k k' b (int z) = no_module_alike (int z)
+  on_module_alike k k' b (text t) = no_module_alike (text t)
+  on_module_alike k k' b (symbol t) = no_module_alike (symbol t)
+  on_module_alike k k' b (array vs) = no_module_alike (array vs)
+  on_module_alike k k' b (module_at i) = b i
+  on_module_alike k k' b (object_at i) = no_module_alike (object_at i)
 
 home_same : {S : Setting false} {w w' : World} (W : Worlds false S w w') (o : Option Key) → home_at w' o ≡ home_at w o
 home_same W None = refl
@@ -85,32 +101,19 @@ module _ {S : Setting false} {old : Text → Bool} where
   pub defines_alike : (x : Text) (required : List Text) (optional : Defaults) (body : Trees)
       → Alike S old (defines x required optional body) (defines x required optional body)
   defines_alike x required optional body = with_frame_alike
-      (in_scope_alike (λ is h. with_method x (method_as x (code (method_code required optional body is)) h)) (λ is h m.
+      (λ a b F h. in_scope_alike (λ is h. with_method x (method_as x (code (method_code required optional body is)) h)) (λ is h m.
       ap (λ t. record (ren_module S.lift m) { methods = t }) (assigned-made (ren_method S.lift) x
-      (method_as x (code (method_code required optional body is)) h) m.methods)) x)
+      (method_as x (code (method_code required optional body is)) h) m.methods)) x a b F)
       (defines_in_keeps x (method_code required optional body)) (defines_in_keeps x (method_code required optional body))
 
   pub defines_singleton_alike : (x : Text) (required : List Text) (optional : Defaults) (body : Trees)
       → Alike S old (defines_singleton x required optional body) (defines_singleton x required optional body)
   defines_singleton_alike x required optional body = with_frame_alike
-      (in_scope_alike (λ is h. with_singleton x (public_code (method_code required optional body is))) (λ is h m.
+      (λ a b F h. in_scope_alike (λ is h. with_singleton x (public_code (method_code required optional body is))) (λ is h m.
       ap (λ t. record (ren_module S.lift m) { singleton = t }) (assigned-made (ren_method S.lift) x
-      (public_code (method_code required optional body is)) m.singleton)) x)
+      (public_code (method_code required optional body is)) m.singleton)) x a b F)
       (defines_singleton_in_keeps x (method_code required optional body))
       (defines_singleton_in_keeps x (method_code required optional body))
-
-  -- ---- modules, or a fault
-
-  pub on_module_alike : (k k' : Id → Act) → ((i : Id) → Alike S old (k i) (k' (lifted S.lift i))) → (v : Value)
-      → Alike S old (on_module_or_fault k v) (on_module_or_fault k' (ren S.lift v))
-  on_module_alike k k' b nil = no_module_alike nil
-  on_module_alike k k' b (truth bit) = no_module_alike (truth bit)
-  on_module_alike k k' b (int z) = no_module_alike (int z)
-  on_module_alike k k' b (text t) = no_module_alike (text t)
-  on_module_alike k k' b (symbol t) = no_module_alike (symbol t)
-  on_module_alike k k' b (array vs) = no_module_alike (array vs)
-  on_module_alike k k' b (module_at i) = b i
-  on_module_alike k k' b (object_at i) = no_module_alike (object_at i)
 
   -- ---- modules that are made
 
@@ -232,12 +235,12 @@ module _ {S : Setting false} {go : Tree → Act} (E : Evaluates S go) {old : Tex
       (b (module_at (innermost_scope is)))) (λ is. l (module_at (innermost_scope is)))
   base_alike topmost h {k} {k'} b l =
       subst (λ j. Alike S old (k (module_at Object_class)) (k' (module_at j))) (S.core_stays 0 refl) (b (module_at Object_class))
-  base_alike (within_node e) h b l = on_alike (E.alike old e h) b l
+  base_alike (within_node e) h b l = on_alike (E.alike old e h (always_plain e)) b l
 
   class_body_alike : (body : Trees) (i : Id)
       → Alike S old (runs_class_body go body i) (runs_class_body go body (lifted S.lift i))
   class_body_alike body i = in_frame_alike (lifted_all S.lift) (λ a c F. F.scopes)
-      (λ is. framed_alike (body_frames S i is) (statements_alike E no_old body (all_free body)))
+      (λ is. framed_alike (body_frames S i is) tt (statements_alike E no_old body (all_free body) (all_plain body)))
       (λ is. framed_keeps (body_frame (lifted S.lift i) is) (statements_keep E.spends body))
 
   class_in_alike : (n : Text) (body : Trees) (i : Id) (superclass : Option Id)
@@ -250,7 +253,7 @@ module _ {S : Setting false} {go : Tree → Act} (E : Evaluates S go) {old : Tex
   pub class_statement_alike : (n : Text) (e : Perhaps) → PerhapsNamesNone old e → (body : Trees) (v : Value)
       → Alike S old (class_statement go n e body v) (class_statement go n e body (ren S.lift v))
   class_statement_alike n absent h body v = on_module_alike _ _ (λ i. class_in_alike n body i None) v
-  class_statement_alike n (present e) h body v = on_alike (E.alike old e h)
+  class_statement_alike n (present e) h body v = on_alike (E.alike old e h (always_plain e))
       (λ u. on_module_alike _ _ (λ i. tests_superclass_alike (class_in_alike n body i) (class_in_keeps E.spends n body (lifted S.lift i)) u) v)
       (λ u. on_module_or_fault_keeps (λ i. tests_superclass_keeps (class_in_keeps E.spends n body i) u) (ren S.lift v))
 

@@ -132,7 +132,7 @@ module _ {calm : Bool} (S : Setting calm) where
 
 module _ {calm : Bool} {S : Setting calm} {old : Text → Bool} where
   pub sets_local_alike : (x : Text) (v : Value) → Alike S old (sets_local x v) (sets_local x (ren S.lift v))
-  sets_local_alike x v = changing_frame_alike _ _ (local_frames x v) v
+  sets_local_alike x v = changing_frame_alike _ _ (local_frames x v) (λ a. refl) v
 
   pub or_nil_alike : (o : Option Value) → Alike S old (or_nil o) (or_nil (option_map (ren S.lift) o))
   or_nil_alike None = gives_alike nil

@@ -20,7 +20,7 @@ use Rattle.zw_def_world.proofs.EvaluationLaws.{run_keeps}
 use Rattle.zw_fresh.specs.Naming.{no_old}
 use Rattle.zw_fresh.proofs.FrameLaws.{top_frames}
 use Rattle.zw_fresh.proofs.LoadLaws.{runs_alike}
-use Rattle.zw_fresh.proofs.EvaluationLaws.{run_evaluates}
+use Rattle.zw_fresh.proofs.EvaluationLaws.{evaluates_plainly}
 use Rattle.zw_fresh.proofs.NamingLaws.{parsed_free}
 use Rattle.zw_fresh.specs.Alike.{Points, Met}
 use Rattle.zw_fresh.specs.Fresh.{raised}
@@ -58,10 +58,11 @@ boot_came setting budget fault_text parsed w tree later same =
     let P : Points false S no_old p p = record {
       world = core_alike S setting;
       frame = top_frames S [];
+      plain = tt;
       left = refl;
       out = ([], refl, refl);
     } in
-    let alike = runs_alike (run_evaluates S budget 0) no_old fault_text parsed (parsed_free parsed) in
+    let alike = runs_alike (evaluates_plainly S budget 0) no_old fault_text parsed (parsed_free parsed) in
     let W = frozen_alike S (self_alike S alike p P tt) in
     let past = acts_stay_past (runs (run budget 0) fault_text parsed)
     (λ E. runs_keeps (run_keeps {E = E} budget 0) fault_text parsed) p (world_past setting) in

@@ -1,10 +1,10 @@
--- The methods of Kernel keep points alike, where no key is stated.
+-- The methods of Kernel keep points alike; `freeze`, where the setting is not calm.
 use Rattle.std.specs.Prelude.{◌≡◌, Bool, true, false, not, ◌&&◌, List, [], ◌∷◌, ◌++◌, codes, drop, Option, Some, None}
 use Rattle.std.specs.Option.{option_map}
 use Rattle.std.proofs.Common.{refl, sym, subst}
 use Rattle.std.proofs.lemmas.List.{drop-map}
 use Rattle.zw_def.specs.Text.{Text, pieces}
-use Rattle.zw_def_world.specs.Row.{KernelRow, kernel_puts, kernel_raise, kernel_class, kernel_is_nil, kernel_equal, kernel_differs, kernel_is_a, kernel_instance_of, kernel_respond_to, kernel_to_s, kernel_inspect, kernel_freeze, kernel_is_frozen}
+use Rattle.zw_def_world.specs.Row.{of_kernel, KernelRow, kernel_puts, kernel_raise, kernel_class, kernel_is_nil, kernel_equal, kernel_differs, kernel_is_a, kernel_instance_of, kernel_respond_to, kernel_to_s, kernel_inspect, kernel_freeze, kernel_is_frozen}
 use Rattle.zw_def_world.specs.Id.{Id, id_eq}
 use Rattle.zw_def_world.specs.Value.{Value, nil, truth, int, text, symbol, array, module_at, object_at, text_in, is_true, as_holder}
 use Rattle.zw_def_world.specs.Record.{frozen_module, frozen_object}
@@ -22,7 +22,10 @@ use Rattle.zw_def_world.proofs.FaultLaws.{makes_text_keeps}
 use Rattle.zw_def_world.proofs.RowLaws.{yes_or_no_keeps}
 use Rattle.zw_def_world.proofs.KernelLaws.{puts_text_keeps, no_exception_keeps, raises_value_keeps, raises_new_keeps}
 use Rattle.zw_fresh.specs.Renaming.{Names, lifted, lifted_object, ren, ren_found}
+use Rattle.zw_fresh.specs.CalmCode.{PlainRow}
 use Rattle.zw_fresh.specs.Alike.{Setting, Found, Worlds}
+use Rattle.zw_fresh.proofs.NameLemmas.{apart}
+use Rattle.zw_fresh.proofs.PlainLaws.{equal_plain, new_plain}
 use Rattle.zw_fresh.proofs.ActLaws.{Spends, Alike, ends_alike, gives_alike, both_alike, on_alike, if_alike, reading_alike, writes_alike}
 use Rattle.zw_fresh.proofs.FoundLaws.{found_map, module_bind}
 use Rattle.zw_fresh.proofs.AncestorLaws.{class_of_found, makes_exceptions_found}
@@ -114,7 +117,7 @@ module _ {calm : Bool} {S : Setting calm} {old : Text → Bool} where
 
   raises_new_alike : {call : Call} → CallAlike S old call → (more : List Value) (v : Value) (b : Bool)
       → Alike S old (raises_new call more v b) (raises_new call (ren_list S.lift more) (ren S.lift v) b)
-  raises_new_alike c more v true = on_alike (c v (codes "new") more) raises_value_alike raises_value_keeps
+  raises_new_alike c more v true = on_alike (c v (codes "new") more (new_plain calm)) raises_value_alike raises_value_keeps
   raises_new_alike c more v false = no_exception_alike
 
   raises_of_alike : {call : Call} → CallAlike S old call → ((r : Value) (x : Text) (vs : List Value) → Spends (call r x vs))
@@ -135,16 +138,22 @@ is_public_same f None = refl
 is_public_same f (Some m) = refl
 
 module _ {S : Setting false} {old : Text → Bool} where
-  freezes_alike : (v : Value) → Alike S old (freezes v (as_holder v)) (freezes (ren S.lift v) (as_holder (ren S.lift v)))
-  freezes_alike nil = gives_alike nil
-  freezes_alike (truth bit) = gives_alike (truth bit)
-  freezes_alike (int z) = gives_alike (int z)
-  freezes_alike (text t) = gives_alike (text t)
-  freezes_alike (symbol t) = gives_alike (symbol t)
-  freezes_alike (array vs) = gives_alike (array vs)
-  freezes_alike (module_at i) = changing_module_alike i frozen_module frozen_module (λ m. refl) (module_at i)
-  freezes_alike (object_at i) = changing_object_alike i frozen_object frozen_object (λ o. refl) (object_at i)
+  freezes_value : (v : Value) → Alike S old (freezes v (as_holder v)) (freezes (ren S.lift v) (as_holder (ren S.lift v)))
+  freezes_value nil = gives_alike nil
+  freezes_value (truth bit) = gives_alike (truth bit)
+  freezes_value (int z) = gives_alike (int z)
+  freezes_value (text t) = gives_alike (text t)
+  freezes_value (symbol t) = gives_alike (symbol t)
+  freezes_value (array vs) = gives_alike (array vs)
+  freezes_value (module_at i) = changing_module_alike i frozen_module frozen_module (λ m. refl) (module_at i)
+  freezes_value (object_at i) = changing_object_alike i frozen_object frozen_object (λ o. refl) (object_at i)
 
+freezes_alike : (calm : Bool) (S : Setting calm) (old : Text → Bool) → PlainRow calm (of_kernel kernel_freeze) → (v : Value)
+    → Alike S old (freezes v (as_holder v)) (freezes (ren S.lift v) (as_holder (ren S.lift v)))
+freezes_alike true S old h v = absurd (apart h)
+freezes_alike false S old h v = freezes_value v
+
+module _ {calm : Bool} {S : Setting calm} {old : Text → Bool} where
   module _ (s : Site) (of_s : SiteAlike S old s) where
     is_nil_alike : (r : Value) (vs : List Value)
         → Alike S old (kernel_act s kernel_is_nil r vs) (kernel_act s kernel_is_nil (ren S.lift r) (ren_list S.lift vs))
@@ -179,7 +188,7 @@ module _ {S : Setting false} {old : Text → Bool} where
     differs_alike : (r : Value) (vs : List Value)
         → Alike S old (s.sends r (codes "==") vs >>= (λ v. yes_or_no (not (is_true v))))
         (s.sends (ren S.lift r) (codes "==") (ren_list S.lift vs) >>= (λ v. yes_or_no (not (is_true v))))
-    differs_alike r vs = on_alike (of_s.sends r (codes "==") vs)
+    differs_alike r vs = on_alike (of_s.sends r (codes "==") vs (equal_plain calm))
         (λ v. subst (λ b. Alike S old (yes_or_no (not (is_true v))) (yes_or_no (not b))) (sym (truth_same S.lift v))
         (yes_or_no_alike (not (is_true v)))) (λ v. yes_or_no_keeps (not (is_true v)))
 
@@ -220,109 +229,110 @@ module _ {S : Setting false} {old : Text → Bool} where
         → Alike S old (reading (λ w. is_frozen w r) yes_or_no) (reading (λ w. is_frozen w (ren S.lift r)) yes_or_no)
     is_frozen_alike r = reading_alike (λ w w' W. is_frozen_found W r) yes_or_no_alike yes_or_no_keeps
 
-  pub kernel_alike : (s : Site) → SiteAlike S old s → (row : KernelRow) (r : Value) (vs : List Value)
+  pub kernel_alike : (s : Site) → SiteAlike S old s → (row : KernelRow) → PlainRow calm (of_kernel row) → (r : Value)
+      (vs : List Value)
       → Alike S old (kernel_act s row r vs) (kernel_act s row (ren S.lift r) (ren_list S.lift vs))
-  kernel_alike s of_s kernel_puts nil vs = puts_alike of_s.sends vs
-  kernel_alike s of_s kernel_puts (truth bit) vs = puts_alike of_s.sends vs
-  kernel_alike s of_s kernel_puts (int whole) vs = puts_alike of_s.sends vs
-  kernel_alike s of_s kernel_puts (text bytes) vs = puts_alike of_s.sends vs
-  kernel_alike s of_s kernel_puts (symbol name) vs = puts_alike of_s.sends vs
-  kernel_alike s of_s kernel_puts (array items) vs = puts_alike of_s.sends vs
-  kernel_alike s of_s kernel_puts (module_at id) vs = puts_alike of_s.sends vs
-  kernel_alike s of_s kernel_puts (object_at id) vs = puts_alike of_s.sends vs
-  kernel_alike s of_s kernel_raise nil vs = raise_alike s of_s vs
-  kernel_alike s of_s kernel_raise (truth bit) vs = raise_alike s of_s vs
-  kernel_alike s of_s kernel_raise (int whole) vs = raise_alike s of_s vs
-  kernel_alike s of_s kernel_raise (text bytes) vs = raise_alike s of_s vs
-  kernel_alike s of_s kernel_raise (symbol name) vs = raise_alike s of_s vs
-  kernel_alike s of_s kernel_raise (array items) vs = raise_alike s of_s vs
-  kernel_alike s of_s kernel_raise (module_at id) vs = raise_alike s of_s vs
-  kernel_alike s of_s kernel_raise (object_at id) vs = raise_alike s of_s vs
-  kernel_alike s of_s kernel_class nil vs = class_value_alike s of_s nil
-  kernel_alike s of_s kernel_class (truth bit) vs = class_value_alike s of_s (truth bit)
-  kernel_alike s of_s kernel_class (int whole) vs = class_value_alike s of_s (int whole)
-  kernel_alike s of_s kernel_class (text bytes) vs = class_value_alike s of_s (text bytes)
-  kernel_alike s of_s kernel_class (symbol name) vs = class_value_alike s of_s (symbol name)
-  kernel_alike s of_s kernel_class (array items) vs = class_value_alike s of_s (array items)
-  kernel_alike s of_s kernel_class (module_at id) vs = class_value_alike s of_s (module_at id)
-  kernel_alike s of_s kernel_class (object_at id) vs = class_value_alike s of_s (object_at id)
-  kernel_alike s of_s kernel_is_nil nil vs = is_nil_alike s of_s nil vs
-  kernel_alike s of_s kernel_is_nil (truth bit) vs = is_nil_alike s of_s (truth bit) vs
-  kernel_alike s of_s kernel_is_nil (int whole) vs = is_nil_alike s of_s (int whole) vs
-  kernel_alike s of_s kernel_is_nil (text bytes) vs = is_nil_alike s of_s (text bytes) vs
-  kernel_alike s of_s kernel_is_nil (symbol name) vs = is_nil_alike s of_s (symbol name) vs
-  kernel_alike s of_s kernel_is_nil (array items) vs = is_nil_alike s of_s (array items) vs
-  kernel_alike s of_s kernel_is_nil (module_at id) vs = is_nil_alike s of_s (module_at id) vs
-  kernel_alike s of_s kernel_is_nil (object_at id) vs = is_nil_alike s of_s (object_at id) vs
-  kernel_alike s of_s kernel_equal nil vs = by_first (same nil) (same (ren S.lift nil)) (same_alike nil) vs
-  kernel_alike s of_s kernel_equal (truth bit) vs = by_first (same (truth bit)) (same (ren S.lift (truth bit))) (same_alike (truth bit)) vs
-  kernel_alike s of_s kernel_equal (int whole) vs = by_first (same (int whole)) (same (ren S.lift (int whole))) (same_alike (int whole)) vs
-  kernel_alike s of_s kernel_equal (text bytes) vs = by_first (same (text bytes)) (same (ren S.lift (text bytes))) (same_alike (text bytes)) vs
-  kernel_alike s of_s kernel_equal (symbol name) vs = by_first (same (symbol name)) (same (ren S.lift (symbol name))) (same_alike (symbol name)) vs
-  kernel_alike s of_s kernel_equal (array items) vs = by_first (same (array items)) (same (ren S.lift (array items))) (same_alike (array items)) vs
-  kernel_alike s of_s kernel_equal (module_at id) vs = by_first (same (module_at id)) (same (ren S.lift (module_at id))) (same_alike (module_at id)) vs
-  kernel_alike s of_s kernel_equal (object_at id) vs = by_first (same (object_at id)) (same (ren S.lift (object_at id))) (same_alike (object_at id)) vs
-  kernel_alike s of_s kernel_differs nil vs = differs_alike s of_s nil vs
-  kernel_alike s of_s kernel_differs (truth bit) vs = differs_alike s of_s (truth bit) vs
-  kernel_alike s of_s kernel_differs (int whole) vs = differs_alike s of_s (int whole) vs
-  kernel_alike s of_s kernel_differs (text bytes) vs = differs_alike s of_s (text bytes) vs
-  kernel_alike s of_s kernel_differs (symbol name) vs = differs_alike s of_s (symbol name) vs
-  kernel_alike s of_s kernel_differs (array items) vs = differs_alike s of_s (array items) vs
-  kernel_alike s of_s kernel_differs (module_at id) vs = differs_alike s of_s (module_at id) vs
-  kernel_alike s of_s kernel_differs (object_at id) vs = differs_alike s of_s (object_at id) vs
-  kernel_alike s of_s kernel_is_a nil vs = is_a_alike s of_s nil vs
-  kernel_alike s of_s kernel_is_a (truth bit) vs = is_a_alike s of_s (truth bit) vs
-  kernel_alike s of_s kernel_is_a (int whole) vs = is_a_alike s of_s (int whole) vs
-  kernel_alike s of_s kernel_is_a (text bytes) vs = is_a_alike s of_s (text bytes) vs
-  kernel_alike s of_s kernel_is_a (symbol name) vs = is_a_alike s of_s (symbol name) vs
-  kernel_alike s of_s kernel_is_a (array items) vs = is_a_alike s of_s (array items) vs
-  kernel_alike s of_s kernel_is_a (module_at id) vs = is_a_alike s of_s (module_at id) vs
-  kernel_alike s of_s kernel_is_a (object_at id) vs = is_a_alike s of_s (object_at id) vs
-  kernel_alike s of_s kernel_instance_of nil vs = instance_of_alike s of_s nil vs
-  kernel_alike s of_s kernel_instance_of (truth bit) vs = instance_of_alike s of_s (truth bit) vs
-  kernel_alike s of_s kernel_instance_of (int whole) vs = instance_of_alike s of_s (int whole) vs
-  kernel_alike s of_s kernel_instance_of (text bytes) vs = instance_of_alike s of_s (text bytes) vs
-  kernel_alike s of_s kernel_instance_of (symbol name) vs = instance_of_alike s of_s (symbol name) vs
-  kernel_alike s of_s kernel_instance_of (array items) vs = instance_of_alike s of_s (array items) vs
-  kernel_alike s of_s kernel_instance_of (module_at id) vs = instance_of_alike s of_s (module_at id) vs
-  kernel_alike s of_s kernel_instance_of (object_at id) vs = instance_of_alike s of_s (object_at id) vs
-  kernel_alike s of_s kernel_respond_to nil vs = responds_alike s of_s nil vs
-  kernel_alike s of_s kernel_respond_to (truth bit) vs = responds_alike s of_s (truth bit) vs
-  kernel_alike s of_s kernel_respond_to (int whole) vs = responds_alike s of_s (int whole) vs
-  kernel_alike s of_s kernel_respond_to (text bytes) vs = responds_alike s of_s (text bytes) vs
-  kernel_alike s of_s kernel_respond_to (symbol name) vs = responds_alike s of_s (symbol name) vs
-  kernel_alike s of_s kernel_respond_to (array items) vs = responds_alike s of_s (array items) vs
-  kernel_alike s of_s kernel_respond_to (module_at id) vs = responds_alike s of_s (module_at id) vs
-  kernel_alike s of_s kernel_respond_to (object_at id) vs = responds_alike s of_s (object_at id) vs
-  kernel_alike s of_s kernel_to_s nil vs = to_s_alike s of_s nil
-  kernel_alike s of_s kernel_to_s (truth bit) vs = to_s_alike s of_s (truth bit)
-  kernel_alike s of_s kernel_to_s (int whole) vs = to_s_alike s of_s (int whole)
-  kernel_alike s of_s kernel_to_s (text bytes) vs = to_s_alike s of_s (text bytes)
-  kernel_alike s of_s kernel_to_s (symbol name) vs = to_s_alike s of_s (symbol name)
-  kernel_alike s of_s kernel_to_s (array items) vs = to_s_alike s of_s (array items)
-  kernel_alike s of_s kernel_to_s (module_at id) vs = to_s_alike s of_s (module_at id)
-  kernel_alike s of_s kernel_to_s (object_at id) vs = to_s_alike s of_s (object_at id)
-  kernel_alike s of_s kernel_inspect nil vs = inspect_alike s of_s nil
-  kernel_alike s of_s kernel_inspect (truth bit) vs = inspect_alike s of_s (truth bit)
-  kernel_alike s of_s kernel_inspect (int whole) vs = inspect_alike s of_s (int whole)
-  kernel_alike s of_s kernel_inspect (text bytes) vs = inspect_alike s of_s (text bytes)
-  kernel_alike s of_s kernel_inspect (symbol name) vs = inspect_alike s of_s (symbol name)
-  kernel_alike s of_s kernel_inspect (array items) vs = inspect_alike s of_s (array items)
-  kernel_alike s of_s kernel_inspect (module_at id) vs = inspect_alike s of_s (module_at id)
-  kernel_alike s of_s kernel_inspect (object_at id) vs = inspect_alike s of_s (object_at id)
-  kernel_alike s of_s kernel_freeze nil vs = freezes_alike nil
-  kernel_alike s of_s kernel_freeze (truth bit) vs = freezes_alike (truth bit)
-  kernel_alike s of_s kernel_freeze (int whole) vs = freezes_alike (int whole)
-  kernel_alike s of_s kernel_freeze (text bytes) vs = freezes_alike (text bytes)
-  kernel_alike s of_s kernel_freeze (symbol name) vs = freezes_alike (symbol name)
-  kernel_alike s of_s kernel_freeze (array items) vs = freezes_alike (array items)
-  kernel_alike s of_s kernel_freeze (module_at id) vs = freezes_alike (module_at id)
-  kernel_alike s of_s kernel_freeze (object_at id) vs = freezes_alike (object_at id)
-  kernel_alike s of_s kernel_is_frozen nil vs = is_frozen_alike s of_s nil
-  kernel_alike s of_s kernel_is_frozen (truth bit) vs = is_frozen_alike s of_s (truth bit)
-  kernel_alike s of_s kernel_is_frozen (int whole) vs = is_frozen_alike s of_s (int whole)
-  kernel_alike s of_s kernel_is_frozen (text bytes) vs = is_frozen_alike s of_s (text bytes)
-  kernel_alike s of_s kernel_is_frozen (symbol name) vs = is_frozen_alike s of_s (symbol name)
-  kernel_alike s of_s kernel_is_frozen (array items) vs = is_frozen_alike s of_s (array items)
-  kernel_alike s of_s kernel_is_frozen (module_at id) vs = is_frozen_alike s of_s (module_at id)
-  kernel_alike s of_s kernel_is_frozen (object_at id) vs = is_frozen_alike s of_s (object_at id)
+  kernel_alike s of_s kernel_puts h nil vs = puts_alike of_s.sends vs
+  kernel_alike s of_s kernel_puts h (truth bit) vs = puts_alike of_s.sends vs
+  kernel_alike s of_s kernel_puts h (int whole) vs = puts_alike of_s.sends vs
+  kernel_alike s of_s kernel_puts h (text bytes) vs = puts_alike of_s.sends vs
+  kernel_alike s of_s kernel_puts h (symbol name) vs = puts_alike of_s.sends vs
+  kernel_alike s of_s kernel_puts h (array items) vs = puts_alike of_s.sends vs
+  kernel_alike s of_s kernel_puts h (module_at id) vs = puts_alike of_s.sends vs
+  kernel_alike s of_s kernel_puts h (object_at id) vs = puts_alike of_s.sends vs
+  kernel_alike s of_s kernel_raise h nil vs = raise_alike s of_s vs
+  kernel_alike s of_s kernel_raise h (truth bit) vs = raise_alike s of_s vs
+  kernel_alike s of_s kernel_raise h (int whole) vs = raise_alike s of_s vs
+  kernel_alike s of_s kernel_raise h (text bytes) vs = raise_alike s of_s vs
+  kernel_alike s of_s kernel_raise h (symbol name) vs = raise_alike s of_s vs
+  kernel_alike s of_s kernel_raise h (array items) vs = raise_alike s of_s vs
+  kernel_alike s of_s kernel_raise h (module_at id) vs = raise_alike s of_s vs
+  kernel_alike s of_s kernel_raise h (object_at id) vs = raise_alike s of_s vs
+  kernel_alike s of_s kernel_class h nil vs = class_value_alike s of_s nil
+  kernel_alike s of_s kernel_class h (truth bit) vs = class_value_alike s of_s (truth bit)
+  kernel_alike s of_s kernel_class h (int whole) vs = class_value_alike s of_s (int whole)
+  kernel_alike s of_s kernel_class h (text bytes) vs = class_value_alike s of_s (text bytes)
+  kernel_alike s of_s kernel_class h (symbol name) vs = class_value_alike s of_s (symbol name)
+  kernel_alike s of_s kernel_class h (array items) vs = class_value_alike s of_s (array items)
+  kernel_alike s of_s kernel_class h (module_at id) vs = class_value_alike s of_s (module_at id)
+  kernel_alike s of_s kernel_class h (object_at id) vs = class_value_alike s of_s (object_at id)
+  kernel_alike s of_s kernel_is_nil h nil vs = is_nil_alike s of_s nil vs
+  kernel_alike s of_s kernel_is_nil h (truth bit) vs = is_nil_alike s of_s (truth bit) vs
+  kernel_alike s of_s kernel_is_nil h (int whole) vs = is_nil_alike s of_s (int whole) vs
+  kernel_alike s of_s kernel_is_nil h (text bytes) vs = is_nil_alike s of_s (text bytes) vs
+  kernel_alike s of_s kernel_is_nil h (symbol name) vs = is_nil_alike s of_s (symbol name) vs
+  kernel_alike s of_s kernel_is_nil h (array items) vs = is_nil_alike s of_s (array items) vs
+  kernel_alike s of_s kernel_is_nil h (module_at id) vs = is_nil_alike s of_s (module_at id) vs
+  kernel_alike s of_s kernel_is_nil h (object_at id) vs = is_nil_alike s of_s (object_at id) vs
+  kernel_alike s of_s kernel_equal h nil vs = by_first (same nil) (same (ren S.lift nil)) (same_alike nil) vs
+  kernel_alike s of_s kernel_equal h (truth bit) vs = by_first (same (truth bit)) (same (ren S.lift (truth bit))) (same_alike (truth bit)) vs
+  kernel_alike s of_s kernel_equal h (int whole) vs = by_first (same (int whole)) (same (ren S.lift (int whole))) (same_alike (int whole)) vs
+  kernel_alike s of_s kernel_equal h (text bytes) vs = by_first (same (text bytes)) (same (ren S.lift (text bytes))) (same_alike (text bytes)) vs
+  kernel_alike s of_s kernel_equal h (symbol name) vs = by_first (same (symbol name)) (same (ren S.lift (symbol name))) (same_alike (symbol name)) vs
+  kernel_alike s of_s kernel_equal h (array items) vs = by_first (same (array items)) (same (ren S.lift (array items))) (same_alike (array items)) vs
+  kernel_alike s of_s kernel_equal h (module_at id) vs = by_first (same (module_at id)) (same (ren S.lift (module_at id))) (same_alike (module_at id)) vs
+  kernel_alike s of_s kernel_equal h (object_at id) vs = by_first (same (object_at id)) (same (ren S.lift (object_at id))) (same_alike (object_at id)) vs
+  kernel_alike s of_s kernel_differs h nil vs = differs_alike s of_s nil vs
+  kernel_alike s of_s kernel_differs h (truth bit) vs = differs_alike s of_s (truth bit) vs
+  kernel_alike s of_s kernel_differs h (int whole) vs = differs_alike s of_s (int whole) vs
+  kernel_alike s of_s kernel_differs h (text bytes) vs = differs_alike s of_s (text bytes) vs
+  kernel_alike s of_s kernel_differs h (symbol name) vs = differs_alike s of_s (symbol name) vs
+  kernel_alike s of_s kernel_differs h (array items) vs = differs_alike s of_s (array items) vs
+  kernel_alike s of_s kernel_differs h (module_at id) vs = differs_alike s of_s (module_at id) vs
+  kernel_alike s of_s kernel_differs h (object_at id) vs = differs_alike s of_s (object_at id) vs
+  kernel_alike s of_s kernel_is_a h nil vs = is_a_alike s of_s nil vs
+  kernel_alike s of_s kernel_is_a h (truth bit) vs = is_a_alike s of_s (truth bit) vs
+  kernel_alike s of_s kernel_is_a h (int whole) vs = is_a_alike s of_s (int whole) vs
+  kernel_alike s of_s kernel_is_a h (text bytes) vs = is_a_alike s of_s (text bytes) vs
+  kernel_alike s of_s kernel_is_a h (symbol name) vs = is_a_alike s of_s (symbol name) vs
+  kernel_alike s of_s kernel_is_a h (array items) vs = is_a_alike s of_s (array items) vs
+  kernel_alike s of_s kernel_is_a h (module_at id) vs = is_a_alike s of_s (module_at id) vs
+  kernel_alike s of_s kernel_is_a h (object_at id) vs = is_a_alike s of_s (object_at id) vs
+  kernel_alike s of_s kernel_instance_of h nil vs = instance_of_alike s of_s nil vs
+  kernel_alike s of_s kernel_instance_of h (truth bit) vs = instance_of_alike s of_s (truth bit) vs
+  kernel_alike s of_s kernel_instance_of h (int whole) vs = instance_of_alike s of_s (int whole) vs
+  kernel_alike s of_s kernel_instance_of h (text bytes) vs = instance_of_alike s of_s (text bytes) vs
+  kernel_alike s of_s kernel_instance_of h (symbol name) vs = instance_of_alike s of_s (symbol name) vs
+  kernel_alike s of_s kernel_instance_of h (array items) vs = instance_of_alike s of_s (array items) vs
+  kernel_alike s of_s kernel_instance_of h (module_at id) vs = instance_of_alike s of_s (module_at id) vs
+  kernel_alike s of_s kernel_instance_of h (object_at id) vs = instance_of_alike s of_s (object_at id) vs
+  kernel_alike s of_s kernel_respond_to h nil vs = responds_alike s of_s nil vs
+  kernel_alike s of_s kernel_respond_to h (truth bit) vs = responds_alike s of_s (truth bit) vs
+  kernel_alike s of_s kernel_respond_to h (int whole) vs = responds_alike s of_s (int whole) vs
+  kernel_alike s of_s kernel_respond_to h (text bytes) vs = responds_alike s of_s (text bytes) vs
+  kernel_alike s of_s kernel_respond_to h (symbol name) vs = responds_alike s of_s (symbol name) vs
+  kernel_alike s of_s kernel_respond_to h (array items) vs = responds_alike s of_s (array items) vs
+  kernel_alike s of_s kernel_respond_to h (module_at id) vs = responds_alike s of_s (module_at id) vs
+  kernel_alike s of_s kernel_respond_to h (object_at id) vs = responds_alike s of_s (object_at id) vs
+  kernel_alike s of_s kernel_to_s h nil vs = to_s_alike s of_s nil
+  kernel_alike s of_s kernel_to_s h (truth bit) vs = to_s_alike s of_s (truth bit)
+  kernel_alike s of_s kernel_to_s h (int whole) vs = to_s_alike s of_s (int whole)
+  kernel_alike s of_s kernel_to_s h (text bytes) vs = to_s_alike s of_s (text bytes)
+  kernel_alike s of_s kernel_to_s h (symbol name) vs = to_s_alike s of_s (symbol name)
+  kernel_alike s of_s kernel_to_s h (array items) vs = to_s_alike s of_s (array items)
+  kernel_alike s of_s kernel_to_s h (module_at id) vs = to_s_alike s of_s (module_at id)
+  kernel_alike s of_s kernel_to_s h (object_at id) vs = to_s_alike s of_s (object_at id)
+  kernel_alike s of_s kernel_inspect h nil vs = inspect_alike s of_s nil
+  kernel_alike s of_s kernel_inspect h (truth bit) vs = inspect_alike s of_s (truth bit)
+  kernel_alike s of_s kernel_inspect h (int whole) vs = inspect_alike s of_s (int whole)
+  kernel_alike s of_s kernel_inspect h (text bytes) vs = inspect_alike s of_s (text bytes)
+  kernel_alike s of_s kernel_inspect h (symbol name) vs = inspect_alike s of_s (symbol name)
+  kernel_alike s of_s kernel_inspect h (array items) vs = inspect_alike s of_s (array items)
+  kernel_alike s of_s kernel_inspect h (module_at id) vs = inspect_alike s of_s (module_at id)
+  kernel_alike s of_s kernel_inspect h (object_at id) vs = inspect_alike s of_s (object_at id)
+  kernel_alike s of_s kernel_freeze h nil vs = freezes_alike calm S old h nil
+  kernel_alike s of_s kernel_freeze h (truth bit) vs = freezes_alike calm S old h (truth bit)
+  kernel_alike s of_s kernel_freeze h (int whole) vs = freezes_alike calm S old h (int whole)
+  kernel_alike s of_s kernel_freeze h (text bytes) vs = freezes_alike calm S old h (text bytes)
+  kernel_alike s of_s kernel_freeze h (symbol name) vs = freezes_alike calm S old h (symbol name)
+  kernel_alike s of_s kernel_freeze h (array items) vs = freezes_alike calm S old h (array items)
+  kernel_alike s of_s kernel_freeze h (module_at id) vs = freezes_alike calm S old h (module_at id)
+  kernel_alike s of_s kernel_freeze h (object_at id) vs = freezes_alike calm S old h (object_at id)
+  kernel_alike s of_s kernel_is_frozen h nil vs = is_frozen_alike s of_s nil
+  kernel_alike s of_s kernel_is_frozen h (truth bit) vs = is_frozen_alike s of_s (truth bit)
+  kernel_alike s of_s kernel_is_frozen h (int whole) vs = is_frozen_alike s of_s (int whole)
+  kernel_alike s of_s kernel_is_frozen h (text bytes) vs = is_frozen_alike s of_s (text bytes)
+  kernel_alike s of_s kernel_is_frozen h (symbol name) vs = is_frozen_alike s of_s (symbol name)
+  kernel_alike s of_s kernel_is_frozen h (array items) vs = is_frozen_alike s of_s (array items)
+  kernel_alike s of_s kernel_is_frozen h (module_at id) vs = is_frozen_alike s of_s (module_at id)
+  kernel_alike s of_s kernel_is_frozen h (object_at id) vs = is_frozen_alike s of_s (object_at id)

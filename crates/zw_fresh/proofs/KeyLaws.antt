@@ -23,6 +23,11 @@ use Rattle.zw_fresh.proofs.TableLemmas.{assigned-made}
 use Rattle.zw_fresh.proofs.WorldLaws.{counts_same, changed_met, made_met, met_changed}
 use Rattle.zw_fresh.proofs.ChangeLaws.{read_met}
 
+pub key_of_same : {calm : Bool} {S : Setting calm} {w w' : World} → Worlds calm S w w' → (h : Option ConstantPath)
+    (n : Text) → key_of w' h n ≡ key_of w h n
+key_of_same W None n = refl
+key_of_same W (Some p) n = ap (λ m. key_at m (child p n)) W.map
+
 -- ---- two worlds, where no key is stated
 
 module _ {S : Setting false} {w w' : World} (W : Worlds false S w w') where
@@ -173,16 +178,12 @@ module _ {S : Setting false} {w w' : World} (W : Worlds false S w w') where
 
   -- ---- keys
 
-  pub key_of_same : (h : Option ConstantPath) (n : Text) → key_of w' h n ≡ key_of w h n
-  key_of_same None n = refl
-  key_of_same (Some p) n = ap (λ m. key_at m (child p n)) W.map
-
   if_idle_same : (o : Option Key) → if_idle w' o ≡ if_idle w o
   if_idle_same None = refl
   if_idle_same (Some k) = λ i. if is_idle (W.states k.path i) then Some k else None
 
   pub loadable_same : (h : Option ConstantPath) (n : Text) → loadable w' h n ≡ loadable w h n
-  loadable_same h n = ap (if_idle w') (key_of_same h n) ∙ if_idle_same (key_of w h n)
+  loadable_same h n = ap (if_idle w') (key_of_same W h n) ∙ if_idle_same (key_of w h n)
 
 module _ {S : Setting false} {w w' : World} (W : Worlds false S w w') where
   pub begun_same : (q : ConstantPath) → Worlds false S (begun q w) (begun q w')
@@ -211,6 +212,7 @@ module _ {S : Setting false} {old : Text → Bool} where
         (record {
           world = same p.world p'.world P.world;
           frame = P.frame;
+          plain = tt;
           left = ap (λ n. p'.left + n) (S.exact refl (g p.world).states ∙ sym (S.exact refl p.world.states)) ∙ P.left;
           out = P.out;
         });

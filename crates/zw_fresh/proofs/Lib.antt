@@ -2,6 +2,7 @@ pub mod NameLemmas
 pub mod SetupLaws
 pub mod TableLemmas
 pub mod GrowingLaws
+pub mod PlainLaws
 pub mod ActLaws
 pub mod FoundLaws
 pub mod AncestorLaws
@@ -19,9 +20,12 @@ pub mod KeyLaws
 pub mod CallLaws
 pub mod KernelRowLaws
 pub mod ObjectRowLaws
+pub mod CalmKeyLaws
 pub mod LoadLaws
+pub mod CalmLookUpLaws
 pub mod LookUpLaws
 pub mod ModuleQuestionLaws
+pub mod ModuleChangeLaws
 pub mod ModuleRowLaws
 pub mod DefinitionLaws
 pub mod VariableLaws

@@ -36,6 +36,7 @@ use Rattle.zw_fresh.proofs.FrameLaws.{top_frames}
 use Rattle.zw_fresh.proofs.KeyLaws.{state_same, entered_same, left_same, begun_same, settled_same, taken_back_same, with_module_same, key_of_same, changes_alike, in_record_alike, changing_module_alike}
 use Rattle.zw_fresh.proofs.CallLaws.{Evaluates}
 use Rattle.zw_fresh.proofs.NamingLaws.{program_free, parsed_free}
+use Rattle.zw_fresh.proofs.PlainLaws.{always_plain}
 
 -- what is found, where what is asked is the same there
 same_found : {A : Type 0} {o o' : Option A} → o' ≡ o → Found false as_it_is o o'
@@ -92,6 +93,7 @@ module _ {S : Setting false} {old : Text → Bool} where
           (record p' { world = with_module (lifted S.lift i) n (ren_module S.lift made) p'.world }) = record {
             world = with_module_same P.world i n made named;
             frame = P.frame;
+            plain = tt;
             left = P.left;
             out = P.out;
           } in
@@ -144,7 +146,7 @@ module _ {S : Setting false} {go : Node → Act} (E : Evaluates S go) where
       → Alike S old (all_of go v program) (all_of go (ren S.lift v) program)
   all_of_alike old v [] h = gives_alike v
   all_of_alike old v (s ∷ ss) h =
-      on_alike (E.alike old s.tree h.0) (λ u. all_of_alike old u ss h.1) (λ u. all_of_keeps E.spends u ss)
+      on_alike (E.alike old s.tree h.0 (always_plain s.tree)) (λ u. all_of_alike old u ss h.1) (λ u. all_of_keeps E.spends u ss)
 
   pub runs_program_alike : (old : Text → Bool) (program : Program) → ProgramNamesNone old program
       → Alike S old (runs_program go program) (runs_program go program)
@@ -158,7 +160,7 @@ module _ {S : Setting false} {go : Node → Act} (E : Evaluates S go) where
   module _ {old : Text → Bool} where
     runs_file_alike : (path : Path) → Alike S old (runs_file go path) (runs_file go path)
     runs_file_alike path = reading_alike (λ w w' W. same_found (ap (λ t. text_of t path) W.tree))
-        (λ t. framed_alike (top_frames S []) (runs_alike no_old (syntax_text_in path) (program_of [] t) (parsed_free (program_of [] t))))
+        (λ t. framed_alike (top_frames S []) tt (runs_alike no_old (syntax_text_in path) (program_of [] t) (parsed_free (program_of [] t))))
         (λ t. search (keeping, runs_keeps, E.spends))
 
     pub runs_callback_alike : (k : Key) (i : Id) (n : Text) (c : Callback)
@@ -167,7 +169,7 @@ module _ {S : Setting false} {go : Node → Act} (E : Evaluates S go) where
         subst (λ l. Alike S old (framed (top_frame (callback_locals k (at n m.constants))) (runs_program go c.program))
         (framed (top_frame l) (runs_program go c.program)))
         (sym (ap (callback_locals k) (at-made (ren S.lift) n m.constants) ∙ locals_same S.lift k (at n m.constants)))
-        (framed_alike (top_frames S (callback_locals k (at n m.constants))) (runs_program_alike no_old c.program (program_free c.program))))
+        (framed_alike (top_frames S (callback_locals k (at n m.constants))) tt (runs_program_alike no_old c.program (program_free c.program))))
         (λ m. search (keeping, runs_program_keeps, E.spends))
 
     runs_callbacks_alike : (k : Key) (i : Id) (n : Text) (cs : List Callback)

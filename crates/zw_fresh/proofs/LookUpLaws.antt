@@ -1,4 +1,4 @@
--- Look-ups of constants, where no key is stated.
+-- Look-ups of constants keep points alike.
 use Rattle.std.specs.Prelude.{◌≡◌, Bool, true, false, not, ◌&&◌, List, [], ◌∷◌, ◌++◌, filter, Option, Some, None, if◌then◌else◌}
 use Rattle.std.specs.Option.{option_map}
 use Rattle.std.proofs.Common.{refl, sym, ap, ◌∙◌, subst}
@@ -32,6 +32,7 @@ use Rattle.zw_fresh.proofs.FrameLaws.{innermost_same}
 use Rattle.zw_fresh.proofs.KeyLaws.{loadable_same, in_record_alike}
 use Rattle.zw_fresh.proofs.CallLaws.{Evaluates}
 use Rattle.zw_fresh.proofs.LoadLaws.{loads_alike}
+use Rattle.zw_fresh.proofs.CalmLookUpLaws.{asks_calmly}
 
 -- ---- the modules that are asked
 
@@ -94,6 +95,7 @@ module _ {calm : Bool} {S : Setting calm} {w w' : World} (W : Worlds calm S w w'
 
 -- ---- look-ups
 
+-- where the setting is not calm
 module _ {S : Setting false} {go : Node → Act} (E : Evaluates S go) {old : Text → Bool} where
   -- with what was found
   module _ (i : Id) (n : Text) {k k' : Option Value → Act} (b : (o : Option Value) → Alike S old (k o) (k' (option_map (ren S.lift) o)))
@@ -114,12 +116,24 @@ module _ {S : Setting false} {go : Node → Act} (E : Evaluates S go) {old : Tex
     known_alike m None = in_world_alike as_it_is (λ w w' W. loadable_same W m.home n) sought_alike
         (sought_keeps E.spends (lifted S.lift i) n l)
 
-    pub asks_alike : Alike S old (asks go i n k) (asks go (lifted S.lift i) n k')
-    asks_alike = in_record_alike i _ _ (λ m. both_alike (meeting_alike m.home n)
+    asks_plainly : Alike S old (asks go i n k) (asks go (lifted S.lift i) n k')
+    asks_plainly = in_record_alike i _ _ (λ m. both_alike (meeting_alike m.home n)
         (subst (λ o. Alike S old (known go i n k m (at n m.constants))
         (known go (lifted S.lift i) n k' (ren_module S.lift m) o))
         (sym (at-made (ren S.lift) n m.constants)) (known_alike m (at n m.constants))))
         (λ m. search (keeping, met_keeps, known_keeps, E.spends, l))
+
+asks_by : (calm : Bool) (S : Setting calm) (go : Node → Act) → Evaluates S go → (old : Text → Bool) (i : Id) (n : Text)
+    (k k' : Option Value → Act) → ((o : Option Value) → Alike S old (k o) (k' (option_map (ren S.lift) o)))
+    → ((o : Option Value) → Spends (k' o)) → Alike S old (asks go i n k) (asks go (lifted S.lift i) n k')
+asks_by true S go E old i n k k' b l = asks_calmly S go E.loads old i n k k' b l E.grows E.spends
+asks_by false S go E old i n k k' b l = asks_plainly E i n b l
+
+module _ {calm : Bool} {S : Setting calm} {go : Node → Act} (E : Evaluates S go) {old : Text → Bool} where
+  pub asks_alike : (i : Id) (n : Text) {k k' : Option Value → Act}
+      → ((o : Option Value) → Alike S old (k o) (k' (option_map (ren S.lift) o))) → ((o : Option Value) → Spends (k' o))
+      → Alike S old (asks go i n k) (asks go (lifted S.lift i) n k')
+  asks_alike i n {k} {k'} b l = asks_by calm S go E old i n k k' b l
 
   or_else_alike : {m m' : Act} → Alike S old m m' → (o : Option Value)
       → Alike S old (or_else m o) (or_else m' (option_map (ren S.lift) o))

@@ -13,14 +13,14 @@ use Rattle.zw_def_world.specs.MethodLine.{first_method, instances}
 use Rattle.zw_def_world.specs.KernelRows.{is_public}
 use Rattle.zw_def_world.specs.ModuleRows.{modules_of, order, order_of, order_or_same, with_include, with_extension, includes_back, is_included, hidden_in, is_defined_in, is_defined_at, is_defined, has_public_instance}
 use Rattle.zw_fresh.specs.Renaming.{Names, lifted, lifted_all, ren, ren_method, ren_methods, ren_module}
-use Rattle.zw_fresh.specs.Alike.{Setting, Found, Worlds}
+use Rattle.zw_fresh.specs.Alike.{Setting, Found, Modules, shows, Worlds}
 use Rattle.zw_fresh.proofs.TableLemmas.{assigned-made, at-made, is_some-made}
 use Rattle.zw_fresh.proofs.FoundLaws.{some_found, found_bind, found_map, found_if, met_map, is_some_so_found, module_bind}
 use Rattle.zw_fresh.proofs.AncestorLaws.{among_lifted, ancestors_found}
 use Rattle.zw_fresh.proofs.TextLaws.{as_it_is}
 use Rattle.zw_fresh.proofs.MethodLaws.{instances_lifted, first_found}
 use Rattle.zw_fresh.proofs.FaultLaws.{ren_list}
-use Rattle.zw_fresh.proofs.KeyLaws.{loadable_same}
+use Rattle.zw_fresh.proofs.CalmKeyLaws.{defined_same}
 use Rattle.zw_fresh.proofs.KernelRowLaws.{is_public_same}
 use Rattle.zw_fresh.proofs.LookUpLaws.{scoped_found}
 
@@ -110,13 +110,10 @@ module _ {calm : Bool} {S : Setting calm} {w w' : World} (W : Worlds calm S w w'
       (option_map is_public (first_method w' (λ place. true) x [] l))) (sym (instances_lifted S is))
       (found_map _ _ (first_found W (λ place. true) (λ place. true) (λ p. refl) x [] (instances is)) (is_public_same S.lift)))
 
-module _ {S : Setting false} {w w' : World} (W : Worlds false S w w') where
   pub defined_found : (n : Text) (i : Id)
-      → Found false as_it_is (is_defined w n i) (is_defined w' n (lifted S.lift i))
+      → Found calm as_it_is (is_defined w n i) (is_defined w' n (lifted S.lift i))
   defined_found n i = found_bind _ _ (scoped_found W i) (is_some_so_found (is_defined_at w n) (is_defined_at w' n) defined_at)
     where
-      defined_at : (j : Id) → Found false as_it_is (is_defined_at w n j) (is_defined_at w' n (lifted S.lift j))
-      defined_at j = met_map false (λ m m'. m' ≡ ren_module S.lift m) (is_defined_in w n) (is_defined_in w' n) (w.modules j)
-          (w'.modules (lifted S.lift j)) (W.modules j) (λ m m' e. ap (is_defined_in w' n) e
-          ∙ (λ k. (ap is_some (at-made (ren S.lift) n m.constants) ∙ is_some-made (ren S.lift) (at n m.constants)) k
-          || is_some (loadable_same W m.home n k)))
+      defined_at : (j : Id) → Found calm as_it_is (is_defined_at w n j) (is_defined_at w' n (lifted S.lift j))
+      defined_at j = met_map calm (Modules calm S.lift (shows calm S w)) (is_defined_in w n) (is_defined_in w' n) (w.modules j)
+          (w'.modules (lifted S.lift j)) (W.modules j) (defined_same calm S w w' W n)

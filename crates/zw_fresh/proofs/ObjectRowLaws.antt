@@ -1,4 +1,4 @@
--- The methods of Class, Object and Exception keep points alike, where no key is stated.
+-- The methods of Class, Object and Exception keep points alike.
 use Rattle.std.specs.Prelude.{Bool, false, List, [], ◌∷◌, codes, Option, Some, None}
 use Rattle.std.specs.Option.{option_map}
 use Rattle.std.proofs.Common.{refl, ap}
@@ -17,18 +17,18 @@ use Rattle.zw_def_world.proofs.EvolutionLaws.{gives_keeps, both_keep, made_keeps
 use Rattle.zw_def_world.proofs.FaultLaws.{makes_text_keeps}
 use Rattle.zw_fresh.specs.Renaming.{lifted, lifted_object, ren, ren_object}
 use Rattle.zw_fresh.specs.Alike.{Setting}
+use Rattle.zw_fresh.proofs.PlainLaws.{initialize_plain}
 use Rattle.zw_fresh.proofs.ActLaws.{Spends, Alike, gives_alike, both_alike, in_world_alike, reading_alike}
 use Rattle.zw_fresh.proofs.TextLaws.{message_found, inspected_found}
 use Rattle.zw_fresh.proofs.WorldLaws.{fresh_object, made_same}
-use Rattle.zw_fresh.proofs.ChangeLaws.{in_object_alike, changing_alike, changing_object_alike}
+use Rattle.zw_fresh.proofs.ChangeLaws.{in_module_alike, in_object_alike, changing_alike, changing_object_alike}
 use Rattle.zw_fresh.proofs.FaultLaws.{ren_list, makes_text_alike, unless_frozen_alike}
 use Rattle.zw_fresh.proofs.ValueLaws.{text_same}
 use Rattle.zw_fresh.proofs.SiteLaws.{CallAlike}
-use Rattle.zw_fresh.proofs.KeyLaws.{in_record_alike}
 use Rattle.zw_fresh.proofs.CallLaws.{SiteAlike}
 use Rattle.zw_fresh.proofs.KernelRowLaws.{on_module_row, on_object_row}
 
-module _ {S : Setting false} {old : Text → Bool} where
+module _ {calm : Bool} {S : Setting calm} {old : Text → Bool} where
   -- ---- Class, Object and Exception
 
   instance_alike : {call : Call} → CallAlike S old call → ((r : Value) (x : Text) (vs : List Value) → Spends (call r x vs))
@@ -37,7 +37,7 @@ module _ {S : Setting false} {old : Text → Bool} where
   instance_alike c l i vs = in_world_alike (lifted_object S.lift) (λ w w' W. fresh_object W)
       (λ j. both_alike (changing_alike (with_object (new_object i)) (with_object (new_object (lifted S.lift i)))
       (λ w w' W. made_same W (new_object i)) (λ w. refl) (λ w j h. h) nil)
-      (both_alike (c (object_at j) (codes "initialize") vs) (gives_alike (object_at j))))
+      (both_alike (c (object_at j) (codes "initialize") vs (initialize_plain calm)) (gives_alike (object_at j))))
       (λ j. both_keep (made_keeps (new_object (lifted S.lift i)) nil)
       (both_keep (l (object_at j) (codes "initialize") (ren_list S.lift vs)) (gives_keeps (object_at j))))
 
@@ -50,9 +50,9 @@ module _ {S : Setting false} {old : Text → Bool} where
       → Alike S old (class_act s row r vs) (class_act s row (ren S.lift r) (ren_list S.lift vs))
   class_alike s of_s class_new r vs = on_module_row (λ i. makes_instance s.sends i vs)
       (λ i. makes_instance s.sends i (ren_list S.lift vs)) (λ i. instance_alike of_s.sends of_s.spends.sends i vs) r
-  class_alike s of_s class_superclass r vs = on_module_row _ _ (λ i. in_record_alike i
+  class_alike s of_s class_superclass r vs = on_module_row _ _ (λ i. in_module_alike i
       (λ m. gives (superclass_value m.superclass)) (λ m. gives (superclass_value m.superclass))
-      (λ m. superclass_alike m.superclass) (λ m. gives_keeps (superclass_value m.superclass))) r
+      (λ m c. superclass_alike m.superclass) (λ m. gives_keeps (superclass_value m.superclass))) r
 
   pub object_alike : (s : Site) (row : ObjectRow) (r : Value) (vs : List Value)
       → Alike S old (object_act s row r vs) (object_act s row (ren S.lift r) (ren_list S.lift vs))

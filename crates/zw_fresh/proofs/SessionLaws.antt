@@ -22,7 +22,7 @@ use Rattle.zw_fresh.specs.Sessions.{Sessions}
 use Rattle.zw_fresh.proofs.FoundLaws.{object_bind}
 use Rattle.zw_fresh.proofs.TextLaws.{as_it_is, inspected_found, fault_line_found}
 use Rattle.zw_fresh.proofs.LoadLaws.{runs_alike}
-use Rattle.zw_fresh.proofs.EvaluationLaws.{run_evaluates}
+use Rattle.zw_fresh.proofs.EvaluationLaws.{evaluates_plainly}
 
 -- what is found there is what is found here
 pub found_same : {A : Type 0} {o o' : Option A} → Found false as_it_is o o' → o' ≡ o
@@ -111,6 +111,7 @@ module _ {S : Setting false} {old : Text → Bool} where
   start_same a b F s s' P = record {
     world = P.world;
     frame = F;
+    plain = tt;
     left = ap (λ settings. settings.budget + S.owed s.world.states) P.settings
         ∙ ap (λ n. s.settings.budget + n) (S.exact refl s.world.states);
     out = P.out;
@@ -155,6 +156,6 @@ module _ {S : Setting false} {old : Text → Bool} where
       (after_run s' (runs (run settings.budget 0) syntax_text (program_of [] text) (start (console_frame s'.variables) s'))))
       (sym P.settings)
       (after_run_same s s' P _ _ (ends_meet _ _ (P.plain.all_within _)
-      ((runs_alike (run_evaluates S s.settings.budget 0) old syntax_text (program_of [] text) h).acts
+      ((runs_alike (evaluates_plainly S s.settings.budget 0) old syntax_text (program_of [] text) h).acts
       (start (console_frame s.variables) s) (start (console_frame s'.variables) s')
       (start_same _ _ (console_frames s s' P) s s' P))))

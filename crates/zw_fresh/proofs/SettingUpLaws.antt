@@ -28,7 +28,7 @@ use Rattle.zw_fresh.proofs.FrameLaws.{top_frames}
 use Rattle.zw_fresh.proofs.KeyLaws.{changing_module_alike}
 use Rattle.zw_fresh.proofs.LoadLaws.{opens_alike, runs_program_alike}
 use Rattle.zw_fresh.proofs.NamingLaws.{program_free}
-use Rattle.zw_fresh.proofs.EvaluationLaws.{run_evaluates}
+use Rattle.zw_fresh.proofs.EvaluationLaws.{evaluates_plainly}
 use Rattle.zw_fresh.proofs.SessionLaws.{found_same, ends_meet, line_of_end_same, with_line_same, with_steps_same, start_same, steps_same}
 use Rattle.zw_fresh.proofs.BootTableLaws.{boot_module_found, leading_found}
 
@@ -140,7 +140,7 @@ module _ {S : Setting false} where
             → Alike S no_old (runs_program (evaluates s) c.program) (runs_program (evaluates s') c.program)
         one s s' Q = subst (λ settings. Alike S no_old (runs_program (run s.settings.budget 0) c.program)
             (runs_program (run settings.budget 0) c.program)) (sym Q.settings)
-            (runs_program_alike (run_evaluates S s.settings.budget 0) no_old c.program (program_free c.program))
+            (runs_program_alike (evaluates_plainly S s.settings.budget 0) no_old c.program (program_free c.program))
 
     setup_callbacks_same : (s s' : Session) → Sessions S old s s' → Phases S old (setup_callbacks s) (setup_callbacks s')
     setup_callbacks_same s s' P =

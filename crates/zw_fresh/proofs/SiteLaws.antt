@@ -13,7 +13,9 @@ use Rattle.zw_def_world.specs.Act.{Act, reading}
 use Rattle.zw_def_world.proofs.EvolutionLaws.{if_keeps, gives_keeps}
 use Rattle.zw_def_world.proofs.RowLaws.{if_same_keeps, same_items_keeps, among_keeps, text_or_built_in_keeps, unless_long_keeps}
 use Rattle.zw_fresh.specs.Renaming.{ren, ren_all}
+use Rattle.zw_fresh.specs.CalmCode.{PlainName}
 use Rattle.zw_fresh.specs.Alike.{Setting}
+use Rattle.zw_fresh.proofs.PlainLaws.{to_s_plain}
 use Rattle.zw_fresh.proofs.ActLaws.{Spends, Alike, gives_alike, on_alike, if_alike, if_same_alike, reading_alike, paid_alike}
 use Rattle.zw_fresh.proofs.TextLaws.{built_in_found}
 use Rattle.zw_fresh.proofs.FaultLaws.{ren_list, no_comparison_alike, wrong_kind_alike, wrong_number_alike, too_long_alike}
@@ -21,7 +23,7 @@ use Rattle.zw_fresh.proofs.ValueLaws.{truth_same, items_of_same, is_of_same, is_
 
 -- a call there is one here, renamed
 abbrev pub CallAlike : {calm : Bool} → Setting calm → (Text → Bool) → Call → Type 0
-CallAlike S old call = (r : Value) (x : Text) (vs : List Value)
+CallAlike {calm} S old call = (r : Value) (x : Text) (vs : List Value) → PlainName calm x
     → Alike S old (call r x vs) (call (ren S.lift r) x (ren_list S.lift vs))
 
 module _ {calm : Bool} {S : Setting calm} {old : Text → Bool} where
@@ -143,10 +145,10 @@ module _ {calm : Bool} {S : Setting calm} {old : Text → Bool} where
       → ((t : Text) → Alike S old (k t) (k' t)) → ((t : Text) → Spends (k' t))
       → Alike S old (with_text call v k) (with_text call (ren S.lift v) k')
   with_text_alike c (module_at i) b l =
-      on_alike (c (module_at i) (codes "to_s") []) (text_or_alike (module_at i) b l)
+      on_alike (c (module_at i) (codes "to_s") [] (to_s_plain calm)) (text_or_alike (module_at i) b l)
       (text_or_built_in_keeps (ren S.lift (module_at i)) l)
   with_text_alike c (object_at i) b l =
-      on_alike (c (object_at i) (codes "to_s") []) (text_or_alike (object_at i) b l)
+      on_alike (c (object_at i) (codes "to_s") [] (to_s_plain calm)) (text_or_alike (object_at i) b l)
       (text_or_built_in_keeps (ren S.lift (object_at i)) l)
   with_text_alike c nil b l = text_or_alike nil b l nil
   with_text_alike c (truth bit) b l = text_or_alike (truth bit) b l (truth bit)

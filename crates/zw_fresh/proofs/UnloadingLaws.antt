@@ -22,7 +22,7 @@ use Rattle.zw_fresh.proofs.ActLaws.{Alike, ends_alike, both_alike}
 use Rattle.zw_fresh.proofs.TableLemmas.{removed-made}
 use Rattle.zw_fresh.proofs.KeyLaws.{changing_module_alike}
 use Rattle.zw_fresh.proofs.LoadLaws.{logs_line_alike, runs_callback_alike}
-use Rattle.zw_fresh.proofs.EvaluationLaws.{run_evaluates}
+use Rattle.zw_fresh.proofs.EvaluationLaws.{evaluates_plainly}
 use Rattle.zw_fresh.proofs.SettingUpLaws.{Phases, does_same, with_act_same, end_phase_same}
 
 dropped_worlds : {S : Setting false} {w w' : World} → Worlds false S w w' → Worlds false S (without_idle w) (without_idle w')
@@ -64,7 +64,7 @@ module _ {S : Setting false} {old : Text → Bool} where
           (read o (λ k. runs_callback (evaluates s) k load.parent (last_name load.key) c))
           (read o (λ k. runs_callback (evaluates s) k (lifted S.lift load.parent) (last_name load.key) c))
       at None = ends_alike lost
-      at (Some k) = runs_callback_alike (run_evaluates S s.settings.budget 0) k load.parent (last_name load.key) c
+      at (Some k) = runs_callback_alike (evaluates_plainly S s.settings.budget 0) k load.parent (last_name load.key) c
 
   callbacks_same : (load : Load) (cs : List Callback) (a b : Phase) → Phases S old a b
       → Phases S old (with_unload_callbacks load cs a) (with_unload_callbacks (ren_load S.lift load) cs b)

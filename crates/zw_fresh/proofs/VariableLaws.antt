@@ -1,4 +1,4 @@
--- Variables, tests and loops, where no key is stated.
+-- Variables, tests and loops; constants that are set, where the setting is not calm.
 use Rattle.std.specs.Prelude.{◌≡◌, ℕ, zero, suc, Bool, true, false, not, IsFalse, List, [], ◌∷◌, codes, length, nat_lt, is_some, Option, Some, None, if◌then◌else◌}
 use Rattle.std.specs.Option.{option_map}
 use Rattle.std.proofs.Common.{refl, sym, ap, ◌∙◌, subst}
@@ -13,15 +13,15 @@ use Rattle.zw_def_world.specs.Making.{max_text}
 use Rattle.zw_def_world.specs.Call.{or_nil}
 use Rattle.zw_def_world.specs.Variable.{self_act, local_act, ivar_act, to_ivar, has_class_variable, holder_among, holder_of, in_class_scope, in_scope, held_by, cvar_act, holder_or, sets_class_variable, to_cvar, to_constant}
 use Rattle.zw_def_world.specs.Control.{literal, opposite, chosen, after_turn, turns, is_final}
-use Rattle.zw_def_world.specs.Act.{Act, Flow, gave, raised, broken, skipped, returned, out_of_steps, too_deep, lost, gives}
+use Rattle.zw_def_world.specs.Act.{Act, Point, Flow, gave, raised, broken, skipped, returned, out_of_steps, too_deep, lost, gives}
 use Rattle.zw_def_world.proofs.EvolutionLaws.{gives_keeps, reading_keeps, then_keeps}
 use Rattle.zw_def_world.proofs.FaultLaws.{fails_keeps}
 use Rattle.zw_def_world.proofs.CallLaws.{or_nil_keeps, sets_variable_keeps}
 use Rattle.zw_def_world.proofs.LoadLaws.{sets_keeps}
 use Rattle.zw_def_world.proofs.NodeLaws.{in_class_scope_keeps, held_by_keeps, sets_class_variable_keeps, chosen_keeps, after_turn_keeps}
 use Rattle.zw_fresh.specs.Renaming.{Names, lifted, lifted_all, ren, ren_flow, ren_module}
-use Rattle.zw_fresh.specs.Alike.{Setting, Found, Worlds}
-use Rattle.zw_fresh.proofs.ActLaws.{Spends, Alike, ends_alike, gives_alike, on_alike, then_alike, if_alike, if_same_alike, in_frame_alike, reading_alike, paid_alike}
+use Rattle.zw_fresh.specs.Alike.{Setting, module_with, Found, Worlds, IsOver}
+use Rattle.zw_fresh.proofs.ActLaws.{Spends, Alike, Passes, choose, ends_alike, gives_alike, on_alike, then_alike, if_alike, if_same_alike, in_frame_alike, reading_alike, paid_alike}
 use Rattle.zw_fresh.proofs.TableLemmas.{assigned-made, at-made, is_some-made}
 use Rattle.zw_fresh.proofs.FoundLaws.{some_found, found_bind, found_if, module_map}
 use Rattle.zw_fresh.proofs.AncestorLaws.{ancestors_found}
@@ -29,7 +29,7 @@ use Rattle.zw_fresh.proofs.TextLaws.{as_it_is, variables_found}
 use Rattle.zw_fresh.proofs.FaultLaws.{fails_alike, too_long_alike, unless_frozen_alike}
 use Rattle.zw_fresh.proofs.ValueLaws.{truth_same}
 use Rattle.zw_fresh.proofs.FrameLaws.{innermost_same, or_nil_alike}
-use Rattle.zw_fresh.proofs.KeyLaws.{in_record_alike, changing_module_alike}
+use Rattle.zw_fresh.proofs.ChangeLaws.{in_module_alike, changing_variables_alike}
 use Rattle.zw_fresh.proofs.CallLaws.{sets_variable_alike}
 use Rattle.zw_fresh.proofs.LoadLaws.{sets_alike}
 
@@ -55,6 +55,19 @@ pub session_same : (f : Names) (b : Bool) (o : Option Value)
 session_same f true o = refl
 session_same f false o = refl
 
+after_turn_passes : (m : Act) → Passes (after_turn m)
+after_turn_passes m = record { same = at }
+  where
+    at : (f : Flow) (p : Point) → IsOver f → (after_turn m f p).flow ≡ f
+    at (gave v) p o = absurd o
+    at (raised i) p o = absurd o
+    at broken p o = absurd o
+    at skipped p o = absurd o
+    at (returned v) p o = absurd o
+    at out_of_steps p o = refl
+    at too_deep p o = refl
+    at lost p o = refl
+
 -- ---- class variables
 
 module _ {calm : Bool} {S : Setting calm} {w w' : World} (W : Worlds calm S w w') where
@@ -75,7 +88,7 @@ module _ {calm : Bool} {S : Setting calm} {w w' : World} (W : Worlds calm S w w'
 
 -- ---- variables and constants
 
-module _ {S : Setting false} {old : Text → Bool} where
+module _ {calm : Bool} {S : Setting calm} {old : Text → Bool} where
   pub self_alike : {k k' : Value → Act} → ((v : Value) → Alike S old (k v) (k' (ren S.lift v)))
       → ((v : Value) → Spends (k' v)) → Alike S old (self_act k) (self_act k')
   self_alike b l = in_frame_alike (ren S.lift) (λ a c F. F.self_value) b l
@@ -101,8 +114,8 @@ module _ {S : Setting false} {old : Text → Bool} where
 
   held_alike : (x : Text) (i : Id) (o : Option Id)
       → Alike S old (held_by x i o) (held_by x (lifted S.lift i) (option_map (lifted S.lift) o))
-  held_alike x i None = in_record_alike i _ _ (λ m. search fails_alike) (λ m. search fails_keeps)
-  held_alike x i (Some holder) = in_record_alike holder _ _ (λ m.
+  held_alike x i None = in_module_alike i _ _ (λ m c. search fails_alike) (λ m. search fails_keeps)
+  held_alike x i (Some holder) = in_module_alike holder _ _ (λ m c.
       subst (λ o. Alike S old (or_nil (at x m.class_variables)) (or_nil o)) (sym (at-made (ren S.lift) x m.class_variables))
       (or_nil_alike (at x m.class_variables))) (λ m. or_nil_keeps (at x m.class_variables))
 
@@ -112,8 +125,9 @@ module _ {S : Setting false} {old : Text → Bool} where
 
   sets_cvar_alike : (x : Text) (v : Value) (i : Id)
       → Alike S old (sets_class_variable x v i) (sets_class_variable x (ren S.lift v) (lifted S.lift i))
-  sets_cvar_alike x v i = unless_frozen_alike (module_at i) (changing_module_alike i (with_class_variable x v)
-      (with_class_variable x (ren S.lift v)) (λ m. ap (λ t. record (ren_module S.lift m) { class_variables = t })
+  sets_cvar_alike x v i = unless_frozen_alike (module_at i) (changing_variables_alike i (with_class_variable x v)
+      (with_class_variable x (ren S.lift v)) (record { rest = λ m. refl }) (record { rest = λ m. refl })
+      (λ m c. ap (λ t. record (module_with S.lift c m) { class_variables = t })
       (assigned-made (ren S.lift) x v m.class_variables)) v)
 
   pub to_cvar_alike : (x : Text) (v : Value) → Alike S old (to_cvar x v) (to_cvar x (ren S.lift v))
@@ -122,11 +136,6 @@ module _ {S : Setting false} {old : Text → Bool} where
       (sym (holder_or_same S.lift i o)) (sets_cvar_alike x v (holder_or i o)))
       (λ o. sets_class_variable_keeps x (ren S.lift v) (holder_or (lifted S.lift i) o)))
       (λ i. reading_keeps (λ w. holder_of w x i) (λ o. sets_class_variable_keeps x (ren S.lift v) (holder_or i o)))
-
-  pub to_constant_alike : (n : Text) (v : Value) → Alike S old (to_constant n v) (to_constant n (ren S.lift v))
-  to_constant_alike n v = in_frame_alike (lifted S.lift)
-      (λ a b F. ap innermost_scope F.scopes ∙ innermost_same S a.scopes)
-      (λ i. sets_alike i n v) (λ i. sets_keeps i n (ren S.lift v))
 
   pub literal_alike : (t : Text) → Alike S old (literal t) (literal t)
   literal_alike t = if_alike (nat_lt max_text (length t)) too_long_alike (gives_alike (text t))
@@ -157,5 +166,13 @@ module _ {S : Setting false} {old : Text → Bool} where
   turns_alike zero a b = paid_alike 1 (ends_alike lost)
   turns_alike (suc n) a b =
       let later = turns_alike n a b in
-      on_alike a (chosen_alike (then_alike tt b (after_turn_alike later) (after_turn_keeps later.spends)) (gives_alike nil))
+      on_alike a (chosen_alike (then_alike (choose calm (after_turn_passes _, after_turn_passes _) tt) b (after_turn_alike later) (after_turn_keeps later.spends)) (gives_alike nil))
       (chosen_keeps (then_keeps b.spends (after_turn_keeps later.spends)) (gives_keeps nil))
+
+-- ---- constants
+
+pub to_constant_alike : {S : Setting false} {old : Text → Bool} (n : Text) (v : Value)
+    → Alike S old (to_constant n v) (to_constant n (ren S.lift v))
+to_constant_alike {S} {old} n v = in_frame_alike (lifted S.lift)
+    (λ a b F. ap innermost_scope F.scopes ∙ innermost_same S a.scopes)
+    (λ i. sets_alike i n v) (λ i. sets_keeps i n (ren S.lift v))

@@ -12,7 +12,7 @@ use Rattle.zw_def_world.specs.Record.{Module, Object}
 use Rattle.zw_def_world.specs.World.{World, innermost_load, made_now, fresh, counted, with_object, with_module, at_object, at_module}
 use Rattle.zw_def_world.specs.Meeting.{with_meeting}
 use Rattle.zw_fresh.specs.Renaming.{lifted, lifted_object, ren_object, ren_table}
-use Rattle.zw_fresh.specs.Alike.{Setting, LeavesConstants, When, Met, Constant, Modules, module_with, shows, Objects, Worlds}
+use Rattle.zw_fresh.specs.Alike.{Setting, ChangesVariables, When, Met, Constant, Modules, module_with, shows, Objects, Worlds}
 
 -- ---- records by their names
 
@@ -50,6 +50,14 @@ pub made_met : {A B : Type 0} (calm : Bool) (name : Id → Id) → ((i j : Id) �
     → ((j : Id) → Met calm R (records j) (records' (name j)))
     → (j : Id) → Met calm R (with_record i x records j) (with_record (name i) y records' (name j))
 made_met calm name apart R i x y records records' here all j = held_met calm name apart R i (Some x) (Some y) records records' here all j
+
+-- ---- changes of variables
+
+constants_stay : (g : Module → Module) → ChangesVariables g → (m : Module) → (g m).constants ≡ m.constants
+constants_stay g l m = ap (λ k. k.constants) (l.rest m)
+
+home_stays : (g : Module → Module) → ChangesVariables g → (m : Module) → (g m).home ≡ m.home
+home_stays g l m = ap (λ k. k.home) (l.rest m)
 
 -- ---- what is made next
 
@@ -138,8 +146,8 @@ module _ {calm : Bool} {S : Setting calm} {w w' : World} (W : Worlds calm S w w'
 
   -- ---- modules
 
-  -- a change that leaves the constants and the home
-  pub variable_same : (i : Id) (g g' : Module → Module) → LeavesConstants g → LeavesConstants g'
+  -- a change of variables alone
+  pub variable_same : (i : Id) (g g' : Module → Module) → ChangesVariables g → ChangesVariables g'
       → ((m : Module) (c : Table Value) → g' (module_with S.lift c m) ≡ module_with S.lift c (g m))
       → Worlds calm S (at_module i g w) (at_module (lifted S.lift i) g' w')
   variable_same i g g' l l' f = record {
@@ -163,14 +171,14 @@ module _ {calm : Bool} {S : Setting calm} {w w' : World} (W : Worlds calm S w w'
       at true shown m m' M =
           let there = ap g' M.others ∙ f m m'.constants in
           record {
-            others = there ∙ ap (λ c. module_with S.lift c (g m)) (sym (l'.constants m'));
-            constants = λ n. subst (λ c. Constant (shown (g m).home n) S.lift (at_name n (g m).constants) (at_name n c)) (sym (l'.constants m'))
-                (subst (λ c. Constant (shown (g m).home n) S.lift (at_name n c) (at_name n m'.constants)) (sym (l.constants m))
-                (subst (λ h. Constant (shown h n) S.lift (at_name n m.constants) (at_name n m'.constants)) (sym (l.home m))
+            others = there ∙ ap (λ c. module_with S.lift c (g m)) (sym (constants_stay g' l' m'));
+            constants = λ n. subst (λ c. Constant (shown (g m).home n) S.lift (at_name n (g m).constants) (at_name n c)) (sym (constants_stay g' l' m'))
+                (subst (λ c. Constant (shown (g m).home n) S.lift (at_name n c) (at_name n m'.constants)) (sym (constants_stay g l m))
+                (subst (λ h. Constant (shown h n) S.lift (at_name n m.constants) (at_name n m'.constants)) (sym (home_stays g l m))
                 (M.constants n)));
           }
       at false shown m m' M =
-          ap g' M ∙ (f m _ ∙ ap (λ c. module_with S.lift c (g m)) (ap (ren_table S.lift) (sym (l.constants m))))
+          ap g' M ∙ (f m _ ∙ ap (λ c. module_with S.lift c (g m)) (ap (ren_table S.lift) (sym (constants_stay g l m))))
 
       due : (c : Bool) (T : Setting c) → When c (T.due w w') (Unit {0})
           → When c (T.due (at_module i g w) (at_module (lifted T.lift i) g' w')) (Unit {0})

@@ -14,14 +14,14 @@ use Rattle.zw_def_world.specs.Meeting.{with_meeting}
 use Rattle.zw_def_world.specs.LookUp.{loadable}
 use Rattle.zw_def_world.specs.Frame.{Frame}
 use Rattle.zw_def_world.specs.Act.{Point, End, Flow, gave, raised, broken, skipped, returned, out_of_steps, too_deep, lost, Act}
+use Rattle.zw_fresh.specs.CalmCode.{PlainRunning}
 use Rattle.zw_fresh.specs.Renaming.{Names, lifted, lifted_object, lifted_all, ren, ren_module, ren_object, ren_load, ren_running, ren_flow}
 
 -- ---- the setting
 
--- a change that leaves a module's constants and its home
-pub record LeavesConstants (g : Module → Module) : Type 0 where
-  pub constants : (m : Module) → (g m).constants ≡ m.constants
-  pub home : (m : Module) → (g m).home ≡ m.home
+-- a change of a module's variables and class variables alone
+pub record ChangesVariables (g : Module → Module) : Type 0 where
+  pub rest : (m : Module) → g m ≡ record m { variables = (g m).variables; class_variables = (g m).class_variables }
 
 abbrev pub IsThere : {A : Type 0} → Option A → Type 0
 IsThere None = ⊥
@@ -34,8 +34,8 @@ NoneLost w w' = (i : Id) → IsThere (w.modules i) → IsThere (w'.modules i)
 -- How modules and objects are named there, no two alike, and how setups are numbered. Core classes and `main` keep
 -- their names. What is made next is named so there, too: a module only where the world that has it is within bounds.
 -- Of ends that are not within them nothing is said. In a calm setting the keys of a set are stated: where one is idle
--- here, it is done there, and the steps of its load are owed. `due` says what loads owe besides; what programs change
--- that define no constant, leaves it. What was written before is in front.
+-- here, it is done there, and the steps of its load are owed. `due` says what loads owe besides; what plain programs
+-- change, leaves it. What was written before is in front.
 pub record Setting (calm : Bool) : Type 1 where
   pub lift : Names
   pub apart : (i j : Id) → id_eq (lifted lift i) (lifted lift j) ≡ id_eq i j
@@ -58,7 +58,7 @@ pub record Setting (calm : Bool) : Type 1 where
   pub still_made : (w w' : World) (o o' : Object) → due w w' → due (with_object o w) (with_object o' w')
   pub still_object : (w w' : World) (i : Id) (g g' : Object → Object) → due w w'
       → due (at_object i g w) (at_object (lifted_object lift i) g' w')
-  pub still_module : (w w' : World) (i : Id) (g g' : Module → Module) → LeavesConstants g → LeavesConstants g'
+  pub still_module : (w w' : World) (i : Id) (g g' : Module → Module) → ChangesVariables g → ChangesVariables g'
       → due w w' → due (at_module i g w) (at_module (lifted lift i) g' w')
   pub still_met : (w w' : World) (h : Option ConstantPath) (n : Text) → due w w'
       → due (with_meeting h n w) (with_meeting h n w')
@@ -155,6 +155,7 @@ pub record Frames (f : Names) (old : Text → Bool) (a b : Frame) : Type 0 where
 pub record Points (calm : Bool) (S : Setting calm) (old : Text → Bool) (p p' : Point) : Type 0 where
   pub world : Worlds calm S p.world p'.world
   pub frame : Frames S.lift old p.frame p'.frame
+  pub plain : PlainRunning calm p.frame.running
   pub left : p'.left + S.owed p.world.states ≡ p.left + S.total
   pub out : (o : Text) × (p.out ≡ S.front ++ o) × (p'.out ≡ S.front' ++ o)
 

@@ -1,6 +1,8 @@
 pub mod Renaming
+pub mod CalmCode
 pub mod Alike
 pub mod Naming
+pub mod Calm
 pub mod Sessions
 pub mod Fresh
 pub mod Setups
