@@ -14,7 +14,7 @@ use Rattle.zw_def_world.specs.Act.{Point, Act, gave, lost, read, in_module, in_o
 use Rattle.zw_def_world.proofs.EvolutionLaws.{in_module_keeps, in_object_keeps}
 use Rattle.zw_fresh.specs.CalmCode.{PlainRunning}
 use Rattle.zw_fresh.specs.Renaming.{lifted, lifted_object, ren, ren_object}
-use Rattle.zw_fresh.specs.Alike.{NoneLost, Setting, ChangesVariables, Met, Modules, module_with, shows, Objects, Worlds, Frames, Points, Ends}
+use Rattle.zw_fresh.specs.Alike.{IsThere, NoneLost, Setting, ChangesVariables, Met, Modules, module_with, shows, Objects, Worlds, Frames, Points, Ends}
 use Rattle.zw_fresh.proofs.GrowingLaws.{changed_there}
 use Rattle.zw_fresh.proofs.ActLaws.{Spends, Alike, ends_at}
 use Rattle.zw_fresh.proofs.FoundLaws.{module_like}
@@ -24,9 +24,9 @@ use Rattle.zw_fresh.proofs.WorldLaws.{object_same, variable_same, met_same}
 
 pub read_met : {X Y : Type 0} (calm : Bool) (S : Setting calm) (old : Text → Bool) (R : X → Y → Type 0) (k : X → Act)
     (k' : Y → Act) (p p' : Point) → Points calm S old p p' → (o : Option X) (o' : Option Y)
-    → ((x : X) (y : Y) → R x y → Ends calm S old (k x p) (k' y p')) → Met calm R o o'
+    → ((x : X) (y : Y) → o ≡ Some x → R x y → Ends calm S old (k x p) (k' y p')) → Met calm R o o'
     → Ends calm S old (read o k p) (read o' k' p')
-read_met calm S old R k k' p p' P (Some x) (Some y) h m = h x y m
+read_met calm S old R k k' p p' P (Some x) (Some y) h m = h x y refl m
 read_met calm S old R k k' p p' P (Some x) None h m = absurd m
 read_met calm S old R k k' p p' P None None h m = ends_at calm S old lost p p' P
 read_met true S old R k k' p p' P None (Some y) h m = λ inside. tt
@@ -42,7 +42,7 @@ module _ {calm : Bool} {S : Setting calm} {old : Text → Bool} where
       → Alike S old (in_module i k) (in_module (lifted S.lift i) k')
   in_module_alike i k k' b l = record {
     acts = λ p p' P. read_met calm S old (Modules calm S.lift (shows calm S p.world)) k k' p p' P (p.world.modules i)
-        (p'.world.modules (lifted S.lift i)) (λ m m' M.
+        (p'.world.modules (lifted S.lift i)) (λ m m' at M.
         let like = module_like calm S.lift (shows calm S p.world) m m' M in
         subst (λ z. Ends calm S old (k m p) (k' z p')) (sym like.1) ((b m like.0).acts p p' P)) (P.world.modules i);
     grows = in_module_keeps i (λ m. (b m m.constants).grows);
@@ -54,7 +54,7 @@ module _ {calm : Bool} {S : Setting calm} {old : Text → Bool} where
       → Alike S old (in_object i k) (in_object (lifted_object S.lift i) k')
   in_object_alike i k k' b l = record {
     acts = λ p p' P. read_met calm S old (Objects S.lift) k k' p p' P (p.world.objects i)
-        (p'.world.objects (lifted_object S.lift i)) (λ o o' e.
+        (p'.world.objects (lifted_object S.lift i)) (λ o o' at e.
         subst (λ z. Ends calm S old (k o p) (k' z p')) (sym e) ((b o).acts p p' P)) (P.world.objects i);
     grows = in_object_keeps i (λ o. (b o).grows);
     spends = in_object_keeps (lifted_object S.lift i) l;
@@ -105,9 +105,21 @@ module _ {calm : Bool} {S : Setting calm} {old : Text → Bool} where
   pub changing_variables_alike : (i : Id) (g g' : Module → Module) → ChangesVariables g → ChangesVariables g'
       → ((m : Module) (c : Table Value) → g' (module_with S.lift c m) ≡ module_with S.lift c (g m)) → (v : Value)
       → Alike S old (changing_module i g v) (changing_module (lifted S.lift i) g' (ren S.lift v))
-  changing_variables_alike i g g' l l' same v = in_module_alike i _ _
-      (λ m c. changing_alike (at_module i g) (at_module (lifted S.lift i) g')
-      (λ w w' W. variable_same W i g g' l l' same) (λ w. refl) (λ w. changed_there i g w.modules) v) (λ m. changing_spends _ _)
+  changing_variables_alike i g g' l l' same v = record {
+    acts = λ p p' P. read_met calm S old (Modules calm S.lift (shows calm S p.world))
+        (λ m. changing (at_module i g) v) (λ m. changing (at_module (lifted S.lift i) g') (ren S.lift v)) p p' P
+        (p.world.modules i) (p'.world.modules (lifted S.lift i)) (λ m m' at M.
+        ends_at calm S old (gave v) (record p { world = at_module i g p.world })
+        (record p' { world = at_module (lifted S.lift i) g' p'.world }) (record {
+          world = variable_same P.world i g g' l l' same (subst IsThere (sym at) tt);
+          frame = P.frame;
+          plain = P.plain;
+          left = P.left;
+          out = P.out;
+        })) (P.world.modules i);
+    grows = in_module_keeps i (λ m. record { kept = λ p. changed_there i g p.world.modules });
+    spends = in_module_keeps (lifted S.lift i) (λ m. changing_spends (at_module (lifted S.lift i) g') (ren S.lift v));
+  }
 
   pub meeting_alike : (h : Option ConstantPath) (n : Text)
       → Alike S old (changing (with_meeting h n) nil) (changing (with_meeting h n) nil)

@@ -226,7 +226,7 @@ module _ {S : Setting false} {old : Text → Bool} where
       → Alike S old (in_module i k) (in_module (lifted S.lift i) k')
   in_record_alike i k k' b l = record {
     acts = λ p p' P. read_met false S old (λ m m'. m' ≡ ren_module S.lift m) k k' p p' P (p.world.modules i)
-        (p'.world.modules (lifted S.lift i)) (λ m m' e.
+        (p'.world.modules (lifted S.lift i)) (λ m m' at e.
         subst (λ z. Ends false S old (k m p) (k' z p')) (sym e) ((b m).acts p p' P)) (P.world.modules i);
     grows = in_module_keeps i (λ m. (b m).grows);
     spends = in_module_keeps (lifted S.lift i) l;

@@ -12,7 +12,7 @@ use Rattle.zw_def_world.specs.Record.{Module, Object}
 use Rattle.zw_def_world.specs.World.{World, innermost_load, made_now, fresh, counted, with_object, with_module, at_object, at_module}
 use Rattle.zw_def_world.specs.Meeting.{with_meeting}
 use Rattle.zw_fresh.specs.Renaming.{lifted, lifted_object, ren_object, ren_table}
-use Rattle.zw_fresh.specs.Alike.{Setting, ChangesVariables, When, Met, Constant, Modules, module_with, shows, Objects, Worlds}
+use Rattle.zw_fresh.specs.Alike.{IsThere, Setting, ChangesVariables, When, Met, Constant, Modules, module_with, shows, Objects, Worlds}
 
 -- ---- records by their names
 
@@ -146,11 +146,11 @@ module _ {calm : Bool} {S : Setting calm} {w w' : World} (W : Worlds calm S w w'
 
   -- ---- modules
 
-  -- a change of variables alone
+  -- a change of variables alone, of a module that is there
   pub variable_same : (i : Id) (g g' : Module → Module) → ChangesVariables g → ChangesVariables g'
       → ((m : Module) (c : Table Value) → g' (module_with S.lift c m) ≡ module_with S.lift c (g m))
-      → Worlds calm S (at_module i g w) (at_module (lifted S.lift i) g' w')
-  variable_same i g g' l l' f = record {
+      → IsThere (w.modules i) → Worlds calm S (at_module i g w) (at_module (lifted S.lift i) g' w')
+  variable_same i g g' l l' f there = record {
     setups = W.setups;
     loads = W.loads;
     calm_loads = W.calm_loads;
@@ -182,7 +182,7 @@ module _ {calm : Bool} {S : Setting calm} {w w' : World} (W : Worlds calm S w w'
 
       due : (c : Bool) (T : Setting c) → When c (T.due w w') (Unit {0})
           → When c (T.due (at_module i g w) (at_module (lifted T.lift i) g' w')) (Unit {0})
-      due true T d = T.still_module w w' i g g' l l' d
+      due true T d = T.still_module w w' i g g' l l' there d
       due false T d = tt
 
   -- ---- meetings

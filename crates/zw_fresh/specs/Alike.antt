@@ -59,7 +59,7 @@ pub record Setting (calm : Bool) : Type 1 where
   pub still_object : (w w' : World) (i : Id) (g g' : Object → Object) → due w w'
       → due (at_object i g w) (at_object (lifted_object lift i) g' w')
   pub still_module : (w w' : World) (i : Id) (g g' : Module → Module) → ChangesVariables g → ChangesVariables g'
-      → due w w' → due (at_module i g w) (at_module (lifted lift i) g' w')
+      → IsThere (w.modules i) → due w w' → due (at_module i g w) (at_module (lifted lift i) g' w')
   pub still_met : (w w' : World) (h : Option ConstantPath) (n : Text) → due w w'
       → due (with_meeting h n w) (with_meeting h n w')
   pub front : Text

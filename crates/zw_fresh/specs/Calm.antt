@@ -46,3 +46,7 @@ LoadsHanded false S go = Unit {0}
 pub record Handed {calm : Bool} (S : Setting calm) : Type 0 where
   pub plain : (w w' : World) → Worlds calm S w w' → PlainWorld calm w
   pub loads : (n level : ℕ) → Evaluating S (run n level) → LoadsHanded calm S (run n level)
+
+-- the law for a calm setting: each plain program comes to ends alike, however deep it is and whatever bounds it
+abbrev pub PlainIsAlike : Setting true → Type 0
+PlainIsAlike S = (n level : ℕ) → Evaluating S (run n level)

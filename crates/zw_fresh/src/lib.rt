@@ -10,9 +10,11 @@
 #![tactic(auto)]
 
 mod again;
+mod calm;
 mod law;
 mod reached;
 
 pub use again::{reload_is_opening, reload_serves_as_opening};
+pub use calm::{plain_is_alike, Calm};
 pub use law::reload_is_fresh;
 pub use reached::reached_is_fresh;
