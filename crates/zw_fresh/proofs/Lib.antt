@@ -31,6 +31,8 @@ pub mod DefinitionLaws
 pub mod VariableLaws
 pub mod ControlLaws
 pub mod EvaluationLaws
+pub mod CalmInstance
+pub mod OwedLoadLaws
 pub mod SessionLaws
 pub mod FreshLaws
 pub mod BootLaws
