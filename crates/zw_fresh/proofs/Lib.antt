@@ -32,6 +32,7 @@ pub mod VariableLaws
 pub mod ControlLaws
 pub mod EvaluationLaws
 pub mod CalmInstance
+pub mod OwedModuleLaws
 pub mod OwedLoadLaws
 pub mod SessionLaws
 pub mod FreshLaws
