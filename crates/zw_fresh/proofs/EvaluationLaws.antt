@@ -19,7 +19,7 @@ use Rattle.zw_def_world.proofs.DefinitionLaws.{on_module_or_fault_keeps, class_s
 use Rattle.zw_fresh.specs.Renaming.{ren}
 use Rattle.zw_fresh.specs.CalmCode.{Plain}
 use Rattle.zw_fresh.specs.Alike.{Setting}
-use Rattle.zw_fresh.specs.Calm.{Handed, PlainIsAlike}
+use Rattle.zw_fresh.specs.Calm.{Handed}
 use Rattle.zw_fresh.proofs.NameLemmas.{apart}
 use Rattle.zw_fresh.proofs.PlainLaws.{always_plain, world_plain}
 use Rattle.zw_fresh.specs.Naming.{NamesNone}
@@ -162,7 +162,3 @@ none_handed S = record { plain = λ w w' W. world_plain w; loads = λ n level e.
 
 pub evaluates_plainly : (S : Setting false) (n level : ℕ) → Evaluates S (run n level)
 evaluates_plainly S n level = run_evaluates (none_handed S) n level
-
--- the law for a calm setting
-pub plain_is_alike : {S : Setting true} → Handed S → PlainIsAlike S
-plain_is_alike {S} H n level old t h g = ((run_evaluates H n level).alike old t h g).acts

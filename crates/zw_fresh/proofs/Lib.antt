@@ -61,3 +61,6 @@ pub mod AgainLaws
 pub mod StreamLaws
 pub mod OpeningInstance
 pub mod NamingLaws
+pub mod NodeLemmas
+pub mod PlainTreeLaws
+pub mod CalmLaws

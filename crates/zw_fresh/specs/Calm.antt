@@ -1,20 +1,22 @@
 -- The induction over evaluation, and what is handed in of a setting: that worlds have plain methods, and the load of a
 -- stated key.
-use Rattle.std.specs.Prelude.{◌≡◌, ℕ, Bool, true, false, Some, None}
+use Rattle.std.specs.Prelude.{◌≡◌, ℕ, Bool, true, false, List, Some, None, Ok}
 use Rattle.zw_def.specs.Text.{Text}
 use Rattle.zw_def.specs.Map.{Key}
-use Rattle.zw_def_syntax.specs.Tree.{Tree}
+use Rattle.zw_def_syntax.specs.Tree.{Tree, Program}
+use Rattle.zw_def_syntax.specs.Program.{program_of}
 use Rattle.zw_def_world.specs.Id.{Id}
 use Rattle.zw_def_world.specs.Value.{Value, nil}
 use Rattle.zw_def_world.specs.Table.{at}
 use Rattle.zw_def_world.specs.Record.{Module}
 use Rattle.zw_def_world.specs.World.{World}
 use Rattle.zw_def_world.specs.LookUp.{loadable}
-use Rattle.zw_def_world.specs.Load.{loads}
+use Rattle.zw_def_world.specs.Load.{runs_program, loads}
 use Rattle.zw_def_world.specs.Act.{Point, End, Act, gave, gives}
 use Rattle.zw_def_world.specs.Evaluation.{run}
+use Rattle.zw_def_session.specs.Plain.{is_plain}
 use Rattle.zw_fresh.specs.CalmCode.{Plain, PlainWorld}
-use Rattle.zw_fresh.specs.Naming.{NamesNone}
+use Rattle.zw_fresh.specs.Naming.{NamesNone, ProgramNamesNone}
 use Rattle.zw_fresh.specs.Alike.{Setting, IsThere, Worlds, Points, Ends, Acts}
 
 -- from points alike, each plain program that names no older variable comes to ends alike
@@ -47,6 +49,16 @@ pub record Handed {calm : Bool} (S : Setting calm) : Type 0 where
   pub plain : (w w' : World) → Worlds calm S w w' → PlainWorld calm w
   pub loads : (n level : ℕ) → Evaluating S (run n level) → LoadsHanded calm S (run n level)
 
--- the law for a calm setting: each plain program comes to ends alike, however deep it is and whatever bounds it
+-- ---- the law
+
+-- each plain tree comes to ends alike, however deep it stands and whatever bounds it
 abbrev pub PlainIsAlike : Setting true → Type 0
 PlainIsAlike S = (n level : ℕ) → Evaluating S (run n level)
+
+-- and so does each text's program that assigns no constant, opens no class or module and calls none of the special
+-- methods
+abbrev pub PlainProgramsAreAlike : Setting true → Type 0
+PlainProgramsAreAlike S =
+    (n level : ℕ) (old : Text → Bool) (known : List Text) (text : Text) (program : Program)
+    → program_of known text ≡ Ok program → is_plain program ≡ true → ProgramNamesNone old program
+    → Acts true S old (runs_program (run n level) program) (runs_program (run n level) program)

@@ -3,7 +3,7 @@
 
 ghost use Rattle.std.specs.Prelude.{true};
 ghost use Rattle.zw_fresh.specs.Alike.{Setting};
-ghost use Rattle.zw_fresh.specs.Calm.{Handed, PlainIsAlike};
+ghost use Rattle.zw_fresh.specs.Calm.{Handed, PlainIsAlike, PlainProgramsAreAlike};
 
 /// A calm setting, and what has to be known of it: that methods are plain in its worlds, and that a load of a stated key
 /// is owed where the key is done already.
@@ -15,4 +15,5 @@ pub trait Calm {
 /// Does nothing. Its contract is the law that from points alike in a calm setting plain programs come to ends alike.
 pub fn plain_is_alike<C: Calm>()
     ensures law { PlainIsAlike C.setting }
+    ensures programs { PlainProgramsAreAlike C.setting }
 {}
