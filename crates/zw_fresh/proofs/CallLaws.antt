@@ -8,8 +8,7 @@ use Rattle.zw_def_syntax.specs.Tree.{Tree, Trees, Defaults, no_trees, tree_then,
 use Rattle.zw_def_world.specs.Argument.{arguments_of}
 use Rattle.zw_def_world.specs.Row.{Row}
 use Rattle.zw_def_world.specs.Id.{Id}
-use Rattle.zw_def_world.specs.Value.{Value, nil, truth, int, text, symbol, array, module_at, object_at, module_holder}
-use Rattle.zw_def_world.specs.Table.{at}
+use Rattle.zw_def_world.specs.Value.{Value, nil}
 use Rattle.zw_def_world.specs.Record.{Code, Body, code, reader, writer, primitive}
 use Rattle.zw_def_world.specs.MethodLine.{Found as FoundMethod}
 use Rattle.zw_def_world.specs.Frame.{Running}
@@ -17,29 +16,28 @@ use Rattle.zw_def_world.specs.Fault.{wrong_number}
 use Rattle.zw_def_world.specs.Site.{Site}
 use Rattle.zw_def_world.specs.Primitives.{row_act}
 use Rattle.zw_def_world.specs.Load.{scoped}
-use Rattle.zw_def_world.specs.Call.{running_at, binds, left_method, runs_code, runs_if_number, or_nil, sets_in_holder, sets_variable, reads, writes_to, runs_body, runs_found, calls_any, site_with, calls_none, row_calls, row_calls_new, Written, is_bare, finds_private, node_site, Absent, dispatched, calls, runs_next, calls_super}
+use Rattle.zw_def_world.specs.Call.{running_at, binds, left_method, runs_code, runs_if_number, runs_body, runs_found, calls_any, site_with, calls_none, row_calls, row_calls_new, Written, is_bare, finds_private, node_site, Absent, dispatched, calls, runs_next, calls_super}
 use Rattle.zw_def_world.specs.World.{World}
 use Rattle.zw_def_world.specs.Act.{Act, Point, Flow, gave, raised, broken, skipped, returned, out_of_steps, too_deep, lost, statements, last_of}
 use Rattle.zw_def_world.proofs.EvolutionLaws.{last_keeps}
 use Rattle.zw_def_world.proofs.EvaluationLaws.{spending_evolves}
 use Rattle.zw_def_world.proofs.RowLaws.{SiteKeeps}
-use Rattle.zw_def_world.proofs.CallLaws.{sets_local_keeps, left_method_keeps, or_nil_keeps, runs_found_keeps, site_keeps, row_calls_keeps, row_calls_new_keeps, calls_none_keeps, dispatched_keeps, runs_next_keeps}
-use Rattle.zw_fresh.specs.Renaming.{lifted, ren, ren_flow, ren_body, ren_object, ren_code, ren_found, ren_running}
+use Rattle.zw_def_world.proofs.CallLaws.{sets_local_keeps, left_method_keeps, runs_found_keeps, site_keeps, row_calls_keeps, row_calls_new_keeps, calls_none_keeps, dispatched_keeps, runs_next_keeps}
+use Rattle.zw_fresh.specs.Renaming.{lifted, ren, ren_flow, ren_body, ren_code, ren_found, ren_running}
 use Rattle.zw_fresh.specs.CalmCode.{PlainName, PlainRunning, PlainRow, Plain, AllPlain, DefaultsPlain, PlainBody, PlainWorld}
-use Rattle.zw_fresh.specs.Alike.{Setting, module_with, IsOver, Worlds}
+use Rattle.zw_fresh.specs.Alike.{Setting, IsOver, Worlds}
 use Rattle.zw_fresh.specs.Calm.{LoadsHanded}
 use Rattle.zw_fresh.specs.Naming.{NamesNone, AllNameNone, no_old}
 use Rattle.zw_fresh.proofs.GrowingLaws.{growing}
 use Rattle.zw_fresh.proofs.PlainLaws.{row_plain, running_plain, running_named, FoundPlain, method_plain, next_plain}
-use Rattle.zw_fresh.proofs.ActLaws.{Grows, Spends, Alike, Passes, choose, ends_alike, gives_alike, both_alike, on_alike, then_alike, if_alike, if_same_alike, reading_alike, reading_known, framed_alike}
-use Rattle.zw_fresh.proofs.TableLemmas.{assigned-made, at-made}
-use Rattle.zw_fresh.proofs.TextLaws.{variables_found}
+use Rattle.zw_fresh.proofs.EndLaws.{Grows, Spends, Passes, choose}
+use Rattle.zw_fresh.proofs.ActLaws.{Alike, ends_alike, gives_alike, both_alike, on_alike, then_alike, if_alike, if_same_alike, reading_known, framed_alike}
 use Rattle.zw_fresh.proofs.MethodLaws.{method_found, next_found, running_same}
-use Rattle.zw_fresh.proofs.ChangeLaws.{changing_object_alike, changing_variables_alike}
-use Rattle.zw_fresh.proofs.FaultLaws.{ren_list, no_method_alike, private_method_alike, no_super_alike, wrong_number_alike, unless_frozen_alike}
+use Rattle.zw_fresh.proofs.FaultLaws.{ren_list, no_method_alike, private_method_alike, no_super_alike, wrong_number_alike}
 use Rattle.zw_fresh.proofs.SiteLaws.{CallAlike, tested_alike}
-use Rattle.zw_fresh.proofs.FrameLaws.{method_frames, sets_local_alike, or_nil_alike}
+use Rattle.zw_fresh.proofs.FrameLaws.{method_frames, sets_local_alike}
 use Rattle.zw_fresh.proofs.NamingLaws.{free, all_free}
+use Rattle.zw_fresh.proofs.HolderLaws.{reads_alike, writes_to_alike}
 
 -- `go` keeps points alike on each plain program that names no older variable; worlds have plain methods, and the loads
 -- of stated keys are owed
@@ -76,45 +74,9 @@ module _ {calm : Bool} {S : Setting calm} {go : Tree → Act} (E : Evaluates S g
       → Alike S old (statements go ts) (statements go ts)
   statements_alike ts h g = last_alike ts h g nil
 
--- ---- variables of a holder
+-- ---- what leaves a method
 
 module _ {calm : Bool} {S : Setting calm} {old : Text → Bool} where
-  sets_in_module_alike : (x : Text) (v : Value) (i : Id) → Alike S old (sets_in_holder x v (module_holder i))
-      (sets_in_holder x (ren S.lift v) (module_holder (lifted S.lift i)))
-  sets_in_module_alike x v i = changing_variables_alike i _ _
-      (record { rest = λ m. refl }) (record { rest = λ m. refl })
-      (λ m c. ap (λ t. record (module_with S.lift c m) { variables = t }) (assigned-made (ren S.lift) x v m.variables)) v
-
-  pub sets_variable_alike : (x : Text) (v holder : Value)
-      → Alike S old (sets_variable x v holder) (sets_variable x (ren S.lift v) (ren S.lift holder))
-  sets_variable_alike x v nil = unless_frozen_alike nil (gives_alike v)
-  sets_variable_alike x v (truth b) = unless_frozen_alike (truth b) (gives_alike v)
-  sets_variable_alike x v (int z) = unless_frozen_alike (int z) (gives_alike v)
-  sets_variable_alike x v (text t) = unless_frozen_alike (text t) (gives_alike v)
-  sets_variable_alike x v (symbol t) = unless_frozen_alike (symbol t) (gives_alike v)
-  sets_variable_alike x v (array vs) = unless_frozen_alike (array vs) (gives_alike v)
-  sets_variable_alike x v (module_at i) = unless_frozen_alike (module_at i) (sets_in_module_alike x v i)
-  sets_variable_alike x v (object_at i) = unless_frozen_alike (object_at i)
-      (changing_object_alike i _ _ (λ o. ap (λ t. record (ren_object S.lift o) { variables = t })
-      (assigned-made (ren S.lift) x v o.variables)) v)
-
-  pub reads_alike : (r : Value) (x : Text) (vs : List Value)
-      → Alike S old (reads r x vs) (reads (ren S.lift r) x (ren_list S.lift vs))
-  reads_alike r x [] = reading_alike (λ w w' W. variables_found W r) (λ t.
-      subst (λ o. Alike S old (or_nil (at x t)) (or_nil o)) (sym (at-made (ren S.lift) x t)) (or_nil_alike (at x t)))
-      (λ t. or_nil_keeps (at x t))
-  reads_alike r x (v ∷ vs) =
-      subst (λ n. Alike S old (wrong_number (length (v ∷ vs)) 0 0 false) (wrong_number n 0 0 false))
-      (sym (length-map (v ∷ vs) (ren S.lift))) (wrong_number_alike _ 0 0 false)
-
-  pub writes_to_alike : (r : Value) (x : Text) (vs : List Value)
-      → Alike S old (writes_to r x vs) (writes_to (ren S.lift r) x (ren_list S.lift vs))
-  writes_to_alike r x [] = wrong_number_alike 0 1 1 false
-  writes_to_alike r x (v ∷ []) = sets_variable_alike x v r
-  writes_to_alike r x (v ∷ u ∷ more) =
-      subst (λ n. Alike S old (wrong_number (length (v ∷ u ∷ more)) 1 1 false) (wrong_number n 1 1 false))
-      (sym (length-map (v ∷ u ∷ more) (ren S.lift))) (wrong_number_alike _ 1 1 false)
-
   pub left_method_alike : (f : Flow) → Alike S old (left_method f) (left_method (ren_flow S.lift f))
   left_method_alike (returned v) = gives_alike v
   left_method_alike (gave v) = ends_alike (gave v)

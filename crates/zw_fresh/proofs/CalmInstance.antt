@@ -13,7 +13,7 @@ use Rattle.zw_def_world.specs.CoreClass.{Object_class}
 use Rattle.zw_def_world.specs.Value.{module_at}
 use Rattle.zw_def_world.specs.Table.{at}
 use Rattle.zw_def_world.specs.Record.{Module, Object, new_module}
-use Rattle.zw_def_world.specs.World.{World, State, idle, is_idle, key_of, innermost_load, with_object, at_object, at_module}
+use Rattle.zw_def_world.specs.World.{World, idle, is_idle, key_of, innermost_load, with_object, at_object, at_module}
 use Rattle.zw_def_world.specs.Meeting.{with_meeting}
 use Rattle.zw_fresh.specs.CalmCode.{PlainWorld}
 use Rattle.zw_fresh.specs.Renaming.{Names}

@@ -11,9 +11,8 @@ use Rattle.zw_def_syntax.specs.Compound.{separator_next, skip_separators}
 use Rattle.zw_def_syntax.specs.Places.{fault_of}
 use Rattle.zw_def_syntax.specs.Program.{Parsed, at_end, line_here, refused, top_statement, placed, after_statement, after_separators, parsed_from, parsed, parsed_tokens, program_of}
 use Rattle.zw_def_world.specs.Value.{Value, nil}
-use Rattle.zw_def_world.specs.Load.{all_of, runs_program}
+use Rattle.zw_def_world.specs.Load.{all_of}
 use Rattle.zw_def_world.specs.Act.{Act}
-use Rattle.zw_def_world.specs.Evaluation.{run}
 use Rattle.zw_def_world.proofs.LoadLaws.{all_of_keeps}
 use Rattle.zw_def_session.specs.Plain.{is_plain_tree, is_plain}
 use Rattle.zw_fresh.specs.Renaming.{ren}

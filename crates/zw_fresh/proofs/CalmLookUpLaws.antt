@@ -10,7 +10,6 @@ use Rattle.zw_def_world.specs.Id.{Id}
 use Rattle.zw_def_world.specs.Value.{Value, nil}
 use Rattle.zw_def_world.specs.Table.{at}
 use Rattle.zw_def_world.specs.Record.{Module}
-use Rattle.zw_def_world.specs.World.{World}
 use Rattle.zw_def_world.specs.Meeting.{with_meeting}
 use Rattle.zw_def_world.specs.LookUp.{loadable}
 use Rattle.zw_def_world.specs.Load.{loads, sought, known, asks}
@@ -18,9 +17,10 @@ use Rattle.zw_def_world.specs.Act.{Act, Point, Flow, gave, raised, broken, skipp
 use Rattle.zw_def_world.proofs.EvolutionLaws.{in_module_keeps, go_on_keeps}
 use Rattle.zw_def_world.proofs.LoadLaws.{asks_keeps}
 use Rattle.zw_fresh.specs.Renaming.{lifted, ren, ren_flow}
-use Rattle.zw_fresh.specs.Alike.{Setting, IsThere, Met, Constant, Modules, shows, Points, IsOver, Short, EndsAlike, Ends}
+use Rattle.zw_fresh.specs.Alike.{Setting, IsThere, Met, Constant, Modules, shows, Points, Short, EndsAlike, Ends}
 use Rattle.zw_fresh.specs.Calm.{IsOwed, LoadsAreOwed}
-use Rattle.zw_fresh.proofs.ActLaws.{Grows, Spends, Alike, ends_at}
+use Rattle.zw_fresh.proofs.EndLaws.{Grows, Spends, ends_at}
+use Rattle.zw_fresh.proofs.ActLaws.{Alike}
 use Rattle.zw_fresh.proofs.WorldLaws.{met_same}
 use Rattle.zw_fresh.proofs.CalmKeyLaws.{loadable_not_shown}
 use Rattle.zw_fresh.proofs.NameLemmas.{apart}

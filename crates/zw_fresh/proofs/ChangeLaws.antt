@@ -16,7 +16,8 @@ use Rattle.zw_fresh.specs.CalmCode.{PlainRunning}
 use Rattle.zw_fresh.specs.Renaming.{lifted, lifted_object, ren, ren_object}
 use Rattle.zw_fresh.specs.Alike.{IsThere, NoneLost, Setting, ChangesVariables, Met, Modules, module_with, shows, Objects, Worlds, Frames, Points, Ends}
 use Rattle.zw_fresh.proofs.GrowingLaws.{changed_there}
-use Rattle.zw_fresh.proofs.ActLaws.{Spends, Alike, ends_at}
+use Rattle.zw_fresh.proofs.EndLaws.{Spends, ends_at}
+use Rattle.zw_fresh.proofs.ActLaws.{Alike}
 use Rattle.zw_fresh.proofs.FoundLaws.{module_like}
 use Rattle.zw_fresh.proofs.WorldLaws.{object_same, variable_same, met_same}
 

@@ -1,5 +1,5 @@
 -- Calls, texts, jumps and `begin` keep points alike.
-use Rattle.std.specs.Prelude.{◌≡◌, Bool, false, IsFalse, List, [], ◌∷◌, ◌++◌, codes, Option, Some, None, if◌then◌else◌}
+use Rattle.std.specs.Prelude.{◌≡◌, Bool, IsFalse, List, [], ◌∷◌, ◌++◌, codes, Option, Some, None, if◌then◌else◌}
 use Rattle.std.specs.Option.{option_map}
 use Rattle.std.proofs.Common.{refl, sym, ◌∙◌, subst}
 use Rattle.zw_def.specs.Text.{Text}
@@ -22,14 +22,14 @@ use Rattle.zw_fresh.specs.Renaming.{lifted, lifted_object, ren, ren_flow}
 use Rattle.zw_fresh.specs.CalmCode.{PlainName, Plain, AllPlain, PerhapsPlain, BranchPlain, PartsPlain, RescuesPlain}
 use Rattle.zw_fresh.specs.Alike.{Setting, IsOver}
 use Rattle.zw_fresh.specs.Naming.{NamesNone, AllNameNone, PerhapsNamesNone, BranchNamesNone, PartsNameNone, RescuesNameNone}
-use Rattle.zw_fresh.proofs.ActLaws.{Spends, Alike, Passes, ends_alike, gives_alike, both_alike, on_alike, if_alike, if_same_alike, in_frame_alike, reading_alike}
+use Rattle.zw_fresh.proofs.EndLaws.{Spends, Passes}
+use Rattle.zw_fresh.proofs.ActLaws.{Alike, ends_alike, gives_alike, both_alike, on_alike, if_alike, if_same_alike, in_frame_alike, reading_alike}
 use Rattle.zw_fresh.proofs.MethodLaws.{is_kind_found}
 use Rattle.zw_fresh.proofs.FaultLaws.{ren_list, fails_alike, makes_text_alike, no_method_alike, no_variable_alike}
 use Rattle.zw_fresh.proofs.SiteLaws.{CallAlike, with_text_alike}
-use Rattle.zw_fresh.proofs.FrameLaws.{parameters_same, sets_local_alike}
+use Rattle.zw_fresh.proofs.FrameLaws.{parameters_same, sets_local_alike, with_frame_alike}
 use Rattle.zw_fresh.proofs.CallLaws.{Evaluates, RowsAlike, statements_alike, row_calls_alike, calls_alike, calls_super_alike}
 use Rattle.zw_fresh.proofs.LookUpLaws.{scoped_alike}
-use Rattle.zw_fresh.proofs.DefinitionLaws.{with_frame_alike}
 use Rattle.zw_fresh.proofs.VariableLaws.{final_same, session_same, self_alike}
 
 -- ---- what keeps an end that is no answer

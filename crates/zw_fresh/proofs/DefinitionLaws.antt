@@ -15,51 +15,27 @@ use Rattle.zw_def_world.specs.World.{World, key_of, is_loading}
 use Rattle.zw_def_world.specs.Frame.{Frame, innermost_scope}
 use Rattle.zw_def_world.specs.Making.{fails}
 use Rattle.zw_def_world.specs.ModuleRows.{method_as}
-use Rattle.zw_def_world.specs.Definition.{method_code, changes_scope, defines, public_code, defines_singleton, base_act, on_module_or_fault, body_frame, runs_class_body, opens_home, home_at, unless_wrong_home, makes_opened, no_class_fault, mismatch, is_superclass, above_or_object, makes_class, reopens_class, reopens_class_value, opens_class, class_in, superclass_fault, tests_superclass, class_statement, no_module_fault, reopens_module_value, opens_module, module_in, module_statement}
-use Rattle.zw_def_world.specs.Act.{Act, in_frame}
-use Rattle.zw_def_world.proofs.EvolutionLaws.{both_keep, in_world_keeps, in_frame_keeps, framed_keeps, statements_keep, if_keeps}
+use Rattle.zw_def_world.specs.Definition.{method_code, changes_scope, defines, public_code, defines_singleton, base_act, body_frame, runs_class_body, opens_home, home_at, unless_wrong_home, makes_opened, no_class_fault, mismatch, is_superclass, above_or_object, makes_class, reopens_class, reopens_class_value, opens_class, class_in, superclass_fault, tests_superclass, class_statement, no_module_fault, reopens_module_value, opens_module, module_in, module_statement}
+use Rattle.zw_def_world.specs.Act.{Act}
+use Rattle.zw_def_world.proofs.EvolutionLaws.{both_keep, in_world_keeps, framed_keeps, statements_keep, if_keeps}
 use Rattle.zw_def_world.proofs.FaultLaws.{fails_keeps}
 use Rattle.zw_def_world.proofs.DefinitionLaws.{opens_home_keeps, defines_in_keeps, defines_singleton_in_keeps, on_module_or_fault_keeps, runs_class_body_keeps, makes_at_home_keeps, reopens_class_keeps, opens_class_keeps, class_in_keeps, superclass_fault_keeps, tests_superclass_keeps, no_module_fault_keeps, opens_module_keeps}
 use Rattle.zw_fresh.specs.Renaming.{lifted, lifted_all, ren, ren_method, ren_module}
-use Rattle.zw_fresh.specs.CalmCode.{PlainRunning}
 use Rattle.zw_fresh.specs.Alike.{Setting, Frames, Worlds}
 use Rattle.zw_fresh.specs.Naming.{PerhapsNamesNone, BaseNamesNone, no_old}
-use Rattle.zw_fresh.proofs.ActLaws.{Grows, Spends, Alike, gives_alike, both_alike, on_alike, if_alike, if_same_alike, in_world_alike, in_frame_alike, reading_alike, framed_alike}
+use Rattle.zw_fresh.proofs.EndLaws.{Spends}
+use Rattle.zw_fresh.proofs.ActLaws.{Alike, gives_alike, both_alike, on_alike, if_alike, if_same_alike, in_world_alike, in_frame_alike, reading_alike, framed_alike}
 use Rattle.zw_fresh.proofs.TableLemmas.{assigned-made}
 use Rattle.zw_fresh.proofs.FoundLaws.{core_same}
 use Rattle.zw_fresh.proofs.TextLaws.{as_it_is, class_name_found}
-use Rattle.zw_fresh.proofs.FaultLaws.{fails_alike, no_module_alike, unless_frozen_alike}
-use Rattle.zw_fresh.proofs.FrameLaws.{innermost_same, body_frames}
+use Rattle.zw_fresh.proofs.FaultLaws.{on_module_alike, fails_alike, unless_frozen_alike}
+use Rattle.zw_fresh.proofs.FrameLaws.{with_frame_alike, innermost_same, body_frames}
 use Rattle.zw_fresh.proofs.KeyLaws.{key_of_same, in_record_alike, changing_module_alike}
 use Rattle.zw_fresh.proofs.CallLaws.{Evaluates, statements_alike}
 use Rattle.zw_fresh.proofs.LoadLaws.{opens_alike, unless_wrong_alike, makes_module_alike}
 use Rattle.zw_fresh.proofs.LookUpLaws.{asks_alike}
 use Rattle.zw_fresh.proofs.NamingLaws.{all_free}
 use Rattle.zw_fresh.proofs.PlainLaws.{always_plain, all_plain}
-
--- what a whole frame tells
-pub with_frame_alike : {calm : Bool} {S : Setting calm} {old : Text → Bool} {k k' : Frame → Act}
-    → ((a b : Frame) → Frames S.lift old a b → PlainRunning calm a.running → Alike S old (k a) (k' b))
-    → ((a : Frame) → Grows (k a)) → ((b : Frame) → Spends (k' b)) → Alike S old (in_frame (λ f. f) k) (in_frame (λ f. f) k')
-with_frame_alike {calm} {S} {old} {k} {k'} b g l = record {
-  acts = λ p p' P. (b p.frame p'.frame P.frame P.plain).acts p p' P;
-  grows = in_frame_keeps (λ f. f) g;
-  spends = in_frame_keeps (λ f. f) l;
-}
-
--- ---- modules, or a fault
-
-module _ {calm : Bool} {S : Setting calm} {old : Text → Bool} where
-  pub on_module_alike : (k k' : Id → Act) → ((i : Id) → Alike S old (k i) (k' (lifted S.lift i))) → (v : Value)
-      → Alike S old (on_module_or_fault k v) (on_module_or_fault k' (ren S.lift v))
-  on_module_alike k k' b nil = no_module_alike nil
-  on_module_alike k k' b (truth bit) = no_module_alike (truth bit)
-  on_module_alike k k' b (int z) = no_module_alike (int z)
-  on_module_alike k k' b (text t) = no_module_alike (text t)
-  on_module_alike k k' b (symbol t) = no_module_alike (symbol t)
-  on_module_alike k k' b (array vs) = no_module_alike (array vs)
-  on_module_alike k k' b (module_at i) = b i
-  on_module_alike k k' b (object_at i) = no_module_alike (object_at i)
 
 home_same : {S : Setting false} {w w' : World} (W : Worlds false S w w') (o : Option Key) → home_at w' o ≡ home_at w o
 home_same W None = refl

@@ -23,14 +23,15 @@ use Rattle.zw_fresh.specs.Calm.{Handed}
 use Rattle.zw_fresh.proofs.NameLemmas.{apart}
 use Rattle.zw_fresh.proofs.PlainLaws.{always_plain, world_plain}
 use Rattle.zw_fresh.specs.Naming.{NamesNone}
-use Rattle.zw_fresh.proofs.ActLaws.{Alike, choose, ends_alike, gives_alike, on_alike, then_alike, if_alike, paid_alike}
-use Rattle.zw_fresh.proofs.FaultLaws.{makes_array_alike}
+use Rattle.zw_fresh.proofs.EndLaws.{choose}
+use Rattle.zw_fresh.proofs.ActLaws.{Alike, ends_alike, gives_alike, on_alike, then_alike, if_alike, paid_alike}
+use Rattle.zw_fresh.proofs.FaultLaws.{makes_array_alike, on_module_alike}
 use Rattle.zw_fresh.proofs.FrameLaws.{sets_local_alike}
 use Rattle.zw_fresh.proofs.CallLaws.{Evaluates, statements_alike}
 use Rattle.zw_fresh.proofs.ModuleRowLaws.{rows_alike}
 use Rattle.zw_fresh.proofs.LoadLaws.{sets_alike}
 use Rattle.zw_fresh.proofs.LookUpLaws.{unscoped_alike, scoped_alike, top_alike}
-use Rattle.zw_fresh.proofs.DefinitionLaws.{defines_alike, defines_singleton_alike, on_module_alike, base_alike, class_statement_alike, module_statement_alike}
+use Rattle.zw_fresh.proofs.DefinitionLaws.{defines_alike, defines_singleton_alike, base_alike, class_statement_alike, module_statement_alike}
 use Rattle.zw_fresh.proofs.VariableLaws.{self_alike, local_alike, ivar_alike, to_ivar_alike, cvar_alike, to_cvar_alike, to_constant_alike, literal_alike, opposite_alike, chosen_alike, turns_alike}
 use Rattle.zw_fresh.proofs.ControlLaws.{values_alike, perhaps_alike, joins_alike, ident_alike, calls_self_alike, calls_on_alike, to_attribute_alike, calls_next_alike, next_with_parameters_alike, after_body_alike, after_body_passes, ensured_alike, ensured_passes}
 

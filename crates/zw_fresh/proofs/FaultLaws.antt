@@ -10,6 +10,7 @@ use Rattle.zw_def_world.specs.Value.{Value, Values, nil, truth, int, text, symbo
 use Rattle.zw_def_world.specs.World.{with_object}
 use Rattle.zw_def_world.specs.Making.{exception, raises, max_text, max_items, max_nesting, too_long, fails, makes_text, nesting, nesting_of, pays_array, makes_array, fits, makes_integer}
 use Rattle.zw_def_world.specs.Fault.{quote, no_constant, fails_for, no_variable, no_method, private_method, no_super, no_module, frozen_fault, unless_frozen, wrong_number, wrong_kind, no_comparison}
+use Rattle.zw_def_world.specs.Definition.{on_module_or_fault}
 use Rattle.zw_def_world.specs.Act.{Act, gives, raised, changing, paid}
 use Rattle.zw_def_world.proofs.EvolutionLaws.{keeping, if_keeps, both_keep, made_keeps, ends_keeps}
 use Rattle.zw_def_world.proofs.FaultLaws.{fails_keeps, frozen_fault_keeps}
@@ -135,3 +136,17 @@ module _ {calm : Bool} {S : Setting calm} {old : Text → Bool} where
   no_comparison_alike u v = reading_alike (λ w w' W. class_name_found W u)
       (λ one. reading_alike (λ w w' W. class_name_found W v) (λ other. search fails_alike) (λ t. search fails_keeps))
       (λ one. search (keeping, fails_keeps))
+
+-- ---- modules, or a fault
+
+module _ {calm : Bool} {S : Setting calm} {old : Text → Bool} where
+  pub on_module_alike : (k k' : Id → Act) → ((i : Id) → Alike S old (k i) (k' (lifted S.lift i))) → (v : Value)
+      → Alike S old (on_module_or_fault k v) (on_module_or_fault k' (ren S.lift v))
+  on_module_alike k k' b nil = no_module_alike nil
+  on_module_alike k k' b (truth bit) = no_module_alike (truth bit)
+  on_module_alike k k' b (int z) = no_module_alike (int z)
+  on_module_alike k k' b (text t) = no_module_alike (text t)
+  on_module_alike k k' b (symbol t) = no_module_alike (symbol t)
+  on_module_alike k k' b (array vs) = no_module_alike (array vs)
+  on_module_alike k k' b (module_at i) = b i
+  on_module_alike k k' b (object_at i) = no_module_alike (object_at i)

@@ -12,9 +12,13 @@ use Rattle.zw_def_world.specs.Frame.{Running, Frame, with_local, innermost_scope
 use Rattle.zw_def_world.specs.Call.{required_locals, method_frame, or_nil, sets_local}
 use Rattle.zw_def_world.specs.Control.{values_at}
 use Rattle.zw_def_world.specs.Definition.{body_frame}
+use Rattle.zw_def_world.specs.Act.{Act, in_frame}
+use Rattle.zw_def_world.proofs.EvolutionLaws.{in_frame_keeps}
 use Rattle.zw_fresh.specs.Renaming.{Names, lifted, lifted_all, ren, ren_table, ren_running, ren_code}
+use Rattle.zw_fresh.specs.CalmCode.{PlainRunning}
 use Rattle.zw_fresh.specs.Alike.{Setting, Frames}
 use Rattle.zw_fresh.specs.Naming.{no_old}
+use Rattle.zw_fresh.proofs.EndLaws.{Grows, Spends}
 use Rattle.zw_fresh.proofs.ActLaws.{Alike, gives_alike}
 use Rattle.zw_fresh.proofs.TableLemmas.{at-assigned, at-made}
 use Rattle.zw_fresh.proofs.ChangeLaws.{changing_frame_alike}
@@ -137,3 +141,13 @@ module _ {calm : Bool} {S : Setting calm} {old : Text → Bool} where
   pub or_nil_alike : (o : Option Value) → Alike S old (or_nil o) (or_nil (option_map (ren S.lift) o))
   or_nil_alike None = gives_alike nil
   or_nil_alike (Some v) = gives_alike v
+
+-- what a whole frame tells
+pub with_frame_alike : {calm : Bool} {S : Setting calm} {old : Text → Bool} {k k' : Frame → Act}
+    → ((a b : Frame) → Frames S.lift old a b → PlainRunning calm a.running → Alike S old (k a) (k' b))
+    → ((a : Frame) → Grows (k a)) → ((b : Frame) → Spends (k' b)) → Alike S old (in_frame (λ f. f) k) (in_frame (λ f. f) k')
+with_frame_alike {calm} {S} {old} {k} {k'} b g l = record {
+  acts = λ p p' P. (b p.frame p'.frame P.frame P.plain).acts p p' P;
+  grows = in_frame_keeps (λ f. f) g;
+  spends = in_frame_keeps (λ f. f) l;
+}

@@ -26,7 +26,8 @@ use Rattle.zw_fresh.specs.CalmCode.{PlainRow}
 use Rattle.zw_fresh.specs.Alike.{Setting, Found, Worlds}
 use Rattle.zw_fresh.proofs.NameLemmas.{apart}
 use Rattle.zw_fresh.proofs.PlainLaws.{equal_plain, new_plain}
-use Rattle.zw_fresh.proofs.ActLaws.{Spends, Alike, ends_alike, gives_alike, both_alike, on_alike, if_alike, reading_alike, writes_alike}
+use Rattle.zw_fresh.proofs.EndLaws.{Spends}
+use Rattle.zw_fresh.proofs.ActLaws.{Alike, ends_alike, gives_alike, both_alike, on_alike, if_alike, reading_alike, writes_alike}
 use Rattle.zw_fresh.proofs.FoundLaws.{found_map, module_bind}
 use Rattle.zw_fresh.proofs.AncestorLaws.{class_of_found, makes_exceptions_found}
 use Rattle.zw_fresh.proofs.TextLaws.{as_it_is, is_exception_found, inspected_found, built_in_found, is_frozen_found}

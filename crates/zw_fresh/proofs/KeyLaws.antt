@@ -18,7 +18,8 @@ use Rattle.zw_def_world.proofs.EvolutionLaws.{in_module_keeps}
 use Rattle.zw_fresh.specs.Renaming.{lifted, ren, ren_table, ren_module, ren_load}
 use Rattle.zw_fresh.specs.Alike.{NoneLost, Setting, Met, Worlds, Ends}
 use Rattle.zw_fresh.proofs.GrowingLaws.{changed_there}
-use Rattle.zw_fresh.proofs.ActLaws.{Spends, Alike, ends_at}
+use Rattle.zw_fresh.proofs.EndLaws.{Spends, ends_at}
+use Rattle.zw_fresh.proofs.ActLaws.{Alike}
 use Rattle.zw_fresh.proofs.TableLemmas.{assigned-made}
 use Rattle.zw_fresh.proofs.WorldLaws.{counts_same, changed_met, made_met, met_changed}
 use Rattle.zw_fresh.proofs.ChangeLaws.{read_met}

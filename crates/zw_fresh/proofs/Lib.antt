@@ -3,6 +3,7 @@ pub mod SetupLaws
 pub mod TableLemmas
 pub mod GrowingLaws
 pub mod PlainLaws
+pub mod EndLaws
 pub mod ActLaws
 pub mod FoundLaws
 pub mod AncestorLaws
@@ -17,6 +18,7 @@ pub mod NumberRowLaws
 pub mod ArrayRowLaws
 pub mod FrameLaws
 pub mod KeyLaws
+pub mod HolderLaws
 pub mod CallLaws
 pub mod KernelRowLaws
 pub mod ObjectRowLaws

@@ -27,7 +27,8 @@ use Rattle.zw_fresh.specs.Renaming.{Names, lifted, ren, ren_flow, ren_table, ren
 use Rattle.zw_fresh.specs.Alike.{Setting, Renamed, Found, Points, Ends, Acts}
 use Rattle.zw_fresh.specs.Naming.{ProgramNamesNone, ParsedNamesNone, no_old}
 use Rattle.zw_fresh.proofs.GrowingLaws.{map_there}
-use Rattle.zw_fresh.proofs.ActLaws.{Spends, Alike, ends_alike, gives_alike, both_alike, on_alike, then_alike, if_alike, in_world_alike, reading_alike, framed_alike, writes_alike, paid_alike}
+use Rattle.zw_fresh.proofs.EndLaws.{Spends}
+use Rattle.zw_fresh.proofs.ActLaws.{Alike, ends_alike, gives_alike, both_alike, on_alike, then_alike, if_alike, in_world_alike, reading_alike, framed_alike, writes_alike, paid_alike}
 use Rattle.zw_fresh.proofs.TableLemmas.{assigned-made, removed-made, at-made}
 use Rattle.zw_fresh.proofs.TextLaws.{as_it_is}
 use Rattle.zw_fresh.proofs.WorldLaws.{fresh_module}

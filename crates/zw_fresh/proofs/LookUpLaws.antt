@@ -21,7 +21,8 @@ use Rattle.zw_def_world.proofs.EvolutionLaws.{keeping, met_keeps}
 use Rattle.zw_def_world.proofs.LoadLaws.{sought_keeps, known_keeps, or_else_keeps, resolves_keeps, unscoped_from_keeps}
 use Rattle.zw_fresh.specs.Renaming.{lifted, lifted_all, ren, ren_table, ren_module}
 use Rattle.zw_fresh.specs.Alike.{Setting, Found, Worlds}
-use Rattle.zw_fresh.proofs.ActLaws.{Spends, Alike, gives_alike, both_alike, in_world_alike, in_frame_alike, reading_alike}
+use Rattle.zw_fresh.proofs.EndLaws.{Spends}
+use Rattle.zw_fresh.proofs.ActLaws.{Alike, gives_alike, both_alike, in_world_alike, in_frame_alike, reading_alike}
 use Rattle.zw_fresh.proofs.TableLemmas.{at-made}
 use Rattle.zw_fresh.proofs.FoundLaws.{core_same, core_same_back, found_map, module_bind}
 use Rattle.zw_fresh.proofs.AncestorLaws.{ancestors_found}

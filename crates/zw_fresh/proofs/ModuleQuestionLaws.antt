@@ -1,5 +1,5 @@
 -- What the methods of Module ask of modules, and their changes, in two worlds alike.
-use Rattle.std.specs.Prelude.{◌≡◌, Bool, true, false, not, ◌&&◌, ◌||◌, List, [], ◌∷◌, is_some, Option, Some, None, if◌then◌else◌}
+use Rattle.std.specs.Prelude.{◌≡◌, Bool, true, false, not, ◌&&◌, List, [], ◌∷◌, Option, Some, None, if◌then◌else◌}
 use Rattle.std.specs.Option.{option_map, option_map_or}
 use Rattle.std.proofs.Common.{refl, sym, ap, ◌∙◌, subst}
 use Rattle.zw_def.specs.Text.{Text}
@@ -14,7 +14,7 @@ use Rattle.zw_def_world.specs.KernelRows.{is_public}
 use Rattle.zw_def_world.specs.ModuleRows.{modules_of, order, order_of, order_or_same, with_include, with_extension, includes_back, is_included, hidden_in, is_defined_in, is_defined_at, is_defined, has_public_instance}
 use Rattle.zw_fresh.specs.Renaming.{Names, lifted, lifted_all, ren, ren_method, ren_methods, ren_module}
 use Rattle.zw_fresh.specs.Alike.{Setting, Found, Modules, shows, Worlds}
-use Rattle.zw_fresh.proofs.TableLemmas.{assigned-made, at-made, is_some-made}
+use Rattle.zw_fresh.proofs.TableLemmas.{assigned-made, at-made}
 use Rattle.zw_fresh.proofs.FoundLaws.{some_found, found_bind, found_map, found_if, met_map, is_some_so_found, module_bind}
 use Rattle.zw_fresh.proofs.AncestorLaws.{among_lifted, ancestors_found}
 use Rattle.zw_fresh.proofs.TextLaws.{as_it_is}

@@ -5,7 +5,6 @@ use Rattle.zw_def.specs.Text.{Text}
 use Rattle.zw_def.specs.Constant.{is_constant}
 use Rattle.zw_def_world.specs.Row.{of_kernel, of_module, of_class, of_object, of_nil, of_integer, of_string, of_symbol, of_array, of_exception, ModuleRow, module_name, module_covers, module_less, module_less_or_same, module_greater, module_greater_or_same, module_ancestors, module_include, module_extend, module_includes, module_attr_reader, module_attr_writer, module_attr_accessor, module_private, module_public, module_private_class_method, module_const_get, module_const_defined, module_autoload, module_method_defined}
 use Rattle.zw_def_world.specs.Value.{Value, text_in}
-use Rattle.zw_def_world.specs.Record.{Module}
 use Rattle.zw_def_world.specs.MethodLine.{is_kind_of}
 use Rattle.zw_def_world.specs.Making.{makes_array, fails}
 use Rattle.zw_def_world.specs.CoreClass.{NameError}

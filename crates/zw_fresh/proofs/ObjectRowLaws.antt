@@ -1,5 +1,5 @@
 -- The methods of Class, Object and Exception keep points alike.
-use Rattle.std.specs.Prelude.{Bool, false, List, [], ◌∷◌, codes, Option, Some, None}
+use Rattle.std.specs.Prelude.{Bool, List, [], ◌∷◌, codes, Option, Some, None}
 use Rattle.std.specs.Option.{option_map}
 use Rattle.std.proofs.Common.{refl, ap}
 use Rattle.zw_def.specs.Text.{Text}
@@ -18,7 +18,8 @@ use Rattle.zw_def_world.proofs.FaultLaws.{makes_text_keeps}
 use Rattle.zw_fresh.specs.Renaming.{lifted, lifted_object, ren, ren_object}
 use Rattle.zw_fresh.specs.Alike.{Setting}
 use Rattle.zw_fresh.proofs.PlainLaws.{initialize_plain}
-use Rattle.zw_fresh.proofs.ActLaws.{Spends, Alike, gives_alike, both_alike, in_world_alike, reading_alike}
+use Rattle.zw_fresh.proofs.EndLaws.{Spends}
+use Rattle.zw_fresh.proofs.ActLaws.{Alike, gives_alike, both_alike, in_world_alike, reading_alike}
 use Rattle.zw_fresh.proofs.TextLaws.{message_found, inspected_found}
 use Rattle.zw_fresh.proofs.WorldLaws.{fresh_object, made_same}
 use Rattle.zw_fresh.proofs.ChangeLaws.{in_module_alike, in_object_alike, changing_alike, changing_object_alike}

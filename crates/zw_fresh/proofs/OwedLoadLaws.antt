@@ -1,5 +1,5 @@
 -- In the setting of one namespace its load is owed, so what is handed in of a calm setting can be had.
-use Rattle.std.specs.Prelude.{◌≡◌, ◌+◌, ◌-◌, ◌<◌, Bool, true, false, [], ◌∷◌, ◌++◌, codes, filter, find, nat_lt, Option, Some, None, if◌then◌else◌}
+use Rattle.std.specs.Prelude.{◌≡◌, ◌+◌, ◌-◌, Bool, true, false, [], ◌∷◌, ◌++◌, codes, filter, find, nat_lt, Option, Some, None, if◌then◌else◌}
 use Rattle.std.specs.Option.{option_map}
 use Rattle.std.proofs.Common.{refl, sym, ap, ◌∙◌, subst, inr, arith, ltb-true, ltb-false}
 use Rattle.zw_def.specs.Text.{Text}
@@ -10,14 +10,14 @@ use Rattle.zw_def_syntax.specs.Tree.{Tree}
 use Rattle.zw_def_world.specs.Id.{Id, id_eq}
 use Rattle.zw_def_world.specs.CoreClass.{Object_class}
 use Rattle.zw_def_world.specs.Value.{Value, nil, module_at}
-use Rattle.zw_def_world.specs.Table.{at, assigned}
+use Rattle.zw_def_world.specs.Table.{at}
 use Rattle.zw_def_world.specs.Record.{Module, with_constant}
 use Rattle.zw_def_world.specs.World.{World, State, idle, loading, done, gone, is_idle, key_of, fresh, entered, settled, with_module}
-use Rattle.zw_def_world.specs.LookUp.{if_idle, loadable}
+use Rattle.zw_def_world.specs.LookUp.{if_idle}
 use Rattle.zw_def_world.specs.Callback.{on_load, callbacks_for}
 use Rattle.zw_def_world.specs.Log.{is_child_of, logs_each, opens, loaded_text}
 use Rattle.zw_def_world.specs.Load.{wrong_or_act, loads_kind, makes_namespace, runs_callbacks, after_loading, is_done, leaves_load, loads}
-use Rattle.zw_def_world.specs.Act.{Act, Point, End, Flow, gave, out_of_steps, ends, gives, continued, go_on, read, in_world, changing, spending, writes, ◌>>◌}
+use Rattle.zw_def_world.specs.Act.{Act, Point, gave, out_of_steps, ends, gives, continued, go_on, read, in_world, changing, spending, writes, ◌>>◌}
 use Rattle.zw_def_world.specs.Evaluation.{run}
 use Rattle.zw_fresh.specs.Alike.{IsThere, state_there, Worlds, Points}
 use Rattle.zw_fresh.specs.CalmCode.{PlainMethods}

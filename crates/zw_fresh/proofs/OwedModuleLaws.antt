@@ -1,32 +1,24 @@
 -- In the setting of one namespace modules are alike after its load, where they were before.
-use Rattle.std.specs.Prelude.{◌≡◌, ℕ, ◌+◌, ◌-◌, ◌<◌, Bool, true, false, [], ◌∷◌, ◌++◌, codes, filter, find, nat_lt, Option, Some, None, if◌then◌else◌}
+use Rattle.std.specs.Prelude.{◌≡◌, Bool, true, false, Option, Some, None, if◌then◌else◌}
 use Rattle.std.specs.Str.{bytes_eq}
 use Rattle.std.specs.Option.{option_map, option_map_or}
-use Rattle.std.proofs.Common.{refl, sym, ap, ◌∙◌, subst, inl, inr, arith, ltb-true, ltb-false}
+use Rattle.std.proofs.Common.{refl, sym, ap, ◌∙◌, subst}
 use Rattle.std.proofs.lemmas.Slice.Eq.{bytes_eq-Decides}
 use Rattle.zw_def.specs.Text.{Text}
 use Rattle.zw_def.specs.ConstantPath.{ConstantPath}
-use Rattle.zw_def.specs.Nesting.{same_names, child}
-use Rattle.zw_def.specs.Map.{Key, key_at}
-use Rattle.zw_def.specs.Wrong.{wrong_below}
-use Rattle.zw_def_syntax.specs.Tree.{Tree}
+use Rattle.zw_def.specs.Nesting.{same_names}
+use Rattle.zw_def.specs.Map.{Key}
 use Rattle.zw_def_world.specs.Id.{Id, Records, id_eq, with_record}
 use Rattle.zw_def_world.specs.CoreClass.{Object_class}
-use Rattle.zw_def_world.specs.Value.{Value, nil, module_at}
+use Rattle.zw_def_world.specs.Value.{module_at}
 use Rattle.zw_def_world.specs.Table.{at, assigned}
 use Rattle.zw_def_world.specs.Record.{Module, with_constant}
-use Rattle.zw_def_world.specs.World.{World, State, idle, loading, done, gone, is_idle, key_of, fresh, entered, left_load, settled, with_module}
-use Rattle.zw_def_world.specs.LookUp.{if_idle, loadable}
-use Rattle.zw_def_world.specs.Callback.{on_load, callbacks_for}
-use Rattle.zw_def_world.specs.Log.{is_child_of, logs_each, opens, loaded_text}
-use Rattle.zw_def_world.specs.Load.{wrong_or_act, makes_namespace, runs_callbacks, after_loading, is_done, leaves_load, loads}
-use Rattle.zw_def_world.specs.Act.{Act, Point, End, Flow, gave, out_of_steps, ends, gives, continued, go_on, read, in_world, changing, writes, ◌>>◌}
-use Rattle.zw_fresh.specs.Renaming.{ren}
-use Rattle.zw_fresh.specs.Alike.{IsThere, Setting, Met, Constant, CalmModules, Modules, state_there, shows, Worlds, Points}
-use Rattle.zw_fresh.specs.Calm.{IsOwed, LoadsAreOwed, Handed}
-use Rattle.zw_fresh.proofs.NameLemmas.{apart, names_decide, id_eq_is}
+use Rattle.zw_def_world.specs.World.{World, done, is_idle, key_of, fresh, entered, left_load, settled, with_module}
+use Rattle.zw_def_world.specs.LookUp.{if_idle}
+use Rattle.zw_fresh.specs.Alike.{IsThere, Met, Constant, Modules, shows}
+use Rattle.zw_fresh.proofs.NameLemmas.{apart, id_eq_is}
 use Rattle.zw_fresh.proofs.TableLemmas.{at-assigned}
-use Rattle.zw_fresh.proofs.CalmInstance.{name, path, key, namespace, namespace_id, Owes, Due, none_some, some_same, one_if, one_namespace}
+use Rattle.zw_fresh.proofs.CalmInstance.{name, path, namespace, namespace_id, Owes, Due, none_some, one_namespace}
 
 -- ---- what stands after the load
 

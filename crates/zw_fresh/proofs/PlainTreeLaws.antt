@@ -2,14 +2,14 @@
 use Rattle.std.specs.Prelude.{◌≡◌, ℕ, ◌==◌, ◌&&◌, ◌||◌, ◌++◌, Bool, true, false, not, List, [], ◌∷◌, codes, Option, Some, None, if◌then◌else◌}
 use Rattle.std.specs.List.{list_any, list_all}
 use Rattle.std.specs.Str.{bytes_eq}
-use Rattle.std.proofs.Common.{refl, sym, ap, ◌∙◌, subst}
+use Rattle.std.proofs.Common.{refl, sym, ap, ◌∙◌}
 use Rattle.std.proofs.lemmas.Slice.Eq.{bytes_eq-Decides}
 use Rattle.std.proofs.lemmas.Bool.{eqb-false}
 use Rattle.zw_def.specs.Text.{Text, pieces}
 use Rattle.zw_def_syntax.specs.Token.{Reason, misplaced_jump, misplaced_def, definition_in_method, repeated_parameter}
-use Rattle.zw_def_syntax.specs.Tree.{Program, Tree, Trees, Perhaps, Branch, Parts, Rescues, nil_node, true_node, false_node, self_node, int_node, str_node, sym_node, interp_node, array_node, local_node, ident_node, ivar_node, cvar_node, const_node, scoped_node, top_const_node, set_local, set_ivar, set_cvar, set_const, set_scoped, set_attr, call_node, self_call, super_node, zsuper_node, not_node, and_node, or_node, if_node, while_node, break_node, next_node, return_node, seq_node, begin_node, def_node, sdef_node, class_node, module_node, no_trees, tree_then, absent, present, no_branch, branch, no_parts, text_then, program_then, no_rescues, rescue_then}
+use Rattle.zw_def_syntax.specs.Tree.{Tree, Trees, Perhaps, Branch, Parts, Rescues, nil_node, true_node, false_node, self_node, int_node, str_node, sym_node, interp_node, array_node, local_node, ident_node, ivar_node, cvar_node, const_node, scoped_node, top_const_node, set_local, set_ivar, set_cvar, set_const, set_scoped, set_attr, call_node, self_call, super_node, zsuper_node, not_node, and_node, or_node, if_node, while_node, break_node, next_node, return_node, seq_node, begin_node, def_node, sdef_node, class_node, module_node, no_trees, tree_then, absent, present, no_branch, branch, no_parts, text_then, program_then, no_rescues, rescue_then}
 use Rattle.zw_def_syntax.specs.Places.{Place, at_top, loop_body, some_node, some_tree, some_perhaps, some_branch, some_part, some_rescue, is_misplaced_jump, is_misplaced_def, is_definition_in_method, repeats_parameter, fault_of}
-use Rattle.zw_def_session.specs.Plain.{special_names, is_special, is_special_call, calls_special, is_definition, is_plain_tree, is_plain}
+use Rattle.zw_def_session.specs.Plain.{special_names, is_special, is_special_call, calls_special, is_definition, is_plain_tree}
 use Rattle.zw_fresh.specs.CalmCode.{is_plain_name, Plain, AllPlain, PerhapsPlain, BranchPlain, PartsPlain, RescuesPlain}
 use Rattle.zw_fresh.proofs.NameLemmas.{apart}
 use Rattle.zw_fresh.proofs.NodeLemmas.{or2, none_passes, none_of_trees, none_of_present, none_of_branch, none_of_text, none_of_program, none_of_rescue}

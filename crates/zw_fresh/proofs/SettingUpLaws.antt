@@ -23,7 +23,8 @@ use Rattle.zw_fresh.specs.Renaming.{Names, lifted, ren_flow}
 use Rattle.zw_fresh.specs.Alike.{Setting, Worlds, EndsAlike}
 use Rattle.zw_fresh.specs.Naming.{no_old}
 use Rattle.zw_fresh.specs.Sessions.{Sessions}
-use Rattle.zw_fresh.proofs.ActLaws.{Spends, Alike, gives_alike, both_alike, reading_alike}
+use Rattle.zw_fresh.proofs.EndLaws.{Spends}
+use Rattle.zw_fresh.proofs.ActLaws.{Alike, gives_alike, both_alike, reading_alike}
 use Rattle.zw_fresh.proofs.FrameLaws.{top_frames}
 use Rattle.zw_fresh.proofs.KeyLaws.{changing_module_alike}
 use Rattle.zw_fresh.proofs.LoadLaws.{opens_alike, runs_program_alike}

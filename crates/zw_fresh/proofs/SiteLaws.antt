@@ -16,7 +16,8 @@ use Rattle.zw_fresh.specs.Renaming.{ren, ren_all}
 use Rattle.zw_fresh.specs.CalmCode.{PlainName}
 use Rattle.zw_fresh.specs.Alike.{Setting}
 use Rattle.zw_fresh.proofs.PlainLaws.{to_s_plain}
-use Rattle.zw_fresh.proofs.ActLaws.{Spends, Alike, gives_alike, on_alike, if_alike, if_same_alike, reading_alike, paid_alike}
+use Rattle.zw_fresh.proofs.EndLaws.{Spends}
+use Rattle.zw_fresh.proofs.ActLaws.{Alike, gives_alike, on_alike, if_alike, if_same_alike, reading_alike, paid_alike}
 use Rattle.zw_fresh.proofs.TextLaws.{built_in_found}
 use Rattle.zw_fresh.proofs.FaultLaws.{ren_list, no_comparison_alike, wrong_kind_alike, wrong_number_alike, too_long_alike}
 use Rattle.zw_fresh.proofs.ValueLaws.{truth_same, items_of_same, is_of_same, is_same_same}

@@ -19,9 +19,10 @@ use Rattle.zw_def_world.proofs.FaultLaws.{fails_keeps}
 use Rattle.zw_def_world.proofs.CallLaws.{or_nil_keeps, sets_variable_keeps}
 use Rattle.zw_def_world.proofs.LoadLaws.{sets_keeps}
 use Rattle.zw_def_world.proofs.NodeLaws.{in_class_scope_keeps, held_by_keeps, sets_class_variable_keeps, chosen_keeps, after_turn_keeps}
-use Rattle.zw_fresh.specs.Renaming.{Names, lifted, lifted_all, ren, ren_flow, ren_module}
+use Rattle.zw_fresh.specs.Renaming.{Names, lifted, lifted_all, ren, ren_flow}
 use Rattle.zw_fresh.specs.Alike.{Setting, module_with, Found, Worlds, IsOver}
-use Rattle.zw_fresh.proofs.ActLaws.{Spends, Alike, Passes, choose, ends_alike, gives_alike, on_alike, then_alike, if_alike, if_same_alike, in_frame_alike, reading_alike, paid_alike}
+use Rattle.zw_fresh.proofs.EndLaws.{Spends, Passes, choose}
+use Rattle.zw_fresh.proofs.ActLaws.{Alike, ends_alike, gives_alike, on_alike, then_alike, if_alike, if_same_alike, in_frame_alike, reading_alike, paid_alike}
 use Rattle.zw_fresh.proofs.TableLemmas.{assigned-made, at-made, is_some-made}
 use Rattle.zw_fresh.proofs.FoundLaws.{some_found, found_bind, found_if, module_map}
 use Rattle.zw_fresh.proofs.AncestorLaws.{ancestors_found}
@@ -30,7 +31,7 @@ use Rattle.zw_fresh.proofs.FaultLaws.{fails_alike, too_long_alike, unless_frozen
 use Rattle.zw_fresh.proofs.ValueLaws.{truth_same}
 use Rattle.zw_fresh.proofs.FrameLaws.{innermost_same, or_nil_alike}
 use Rattle.zw_fresh.proofs.ChangeLaws.{in_module_alike, changing_variables_alike}
-use Rattle.zw_fresh.proofs.CallLaws.{sets_variable_alike}
+use Rattle.zw_fresh.proofs.HolderLaws.{sets_variable_alike}
 use Rattle.zw_fresh.proofs.LoadLaws.{sets_alike}
 
 -- ---- what stays
