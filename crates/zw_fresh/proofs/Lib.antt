@@ -36,6 +36,9 @@ pub mod EvaluationLaws
 pub mod CalmInstance
 pub mod OwedModuleLaws
 pub mod OwedLoadLaws
+pub mod SelfLemmas
+pub mod CorePlainLaws
+pub mod NamespaceInstance
 pub mod SessionLaws
 pub mod FreshLaws
 pub mod BootLaws
