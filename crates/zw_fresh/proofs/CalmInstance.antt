@@ -124,13 +124,16 @@ was_before i g l records j m e = by (id_eq j i) refl e
         → (m₀ : Module) × (records j ≡ Some m₀) × Before m₀ m
     changed None f same e = none_some e
     changed (Some m₀) f same e =
-        let is = some_same e in
-        (m₀, ap records same ∙ f, record {
-          constants = ap (λ k. k.constants) (sym is ∙ l.rest m₀);
-          methods = ap (λ k. k.methods) (sym is ∙ l.rest m₀);
-          singleton = ap (λ k. k.singleton) (sym is ∙ l.rest m₀);
-          home = ap (λ k. k.home) (sym is ∙ l.rest m₀);
-        })
+        let is = some_same e in (
+          m₀,
+          ap records same ∙ f,
+          record {
+            constants = ap (λ k. k.constants) (sym is ∙ l.rest m₀);
+            methods = ap (λ k. k.methods) (sym is ∙ l.rest m₀);
+            singleton = ap (λ k. k.singleton) (sym is ∙ l.rest m₀);
+            home = ap (λ k. k.home) (sym is ∙ l.rest m₀);
+          },
+        )
 
     by : (b : Bool) → id_eq j i ≡ b → (if b then option_map g (records i) else records j) ≡ Some m
         → (m₀ : Module) × (records j ≡ Some m₀) × Before m₀ m

@@ -1,35 +1,18 @@
 -- The methods of the core classes are plain.
-use Rattle.std.specs.Prelude.{◌≡◌, ℕ, ◌+◌, ◌&&◌, ◌||◌, Bool, true, false, not, List, [], ◌∷◌, is_none, map, Option, Some, None, if◌then◌else◌}
+use Rattle.std.specs.Prelude.{◌≡◌, ◌&&◌, ◌||◌, Bool, true, false, not, List, [], ◌∷◌, is_none, Option, Some, None, if◌then◌else◌}
 use Rattle.std.specs.List.{list_all}
-use Rattle.std.specs.Option.{option_map, option_map_or}
 use Rattle.std.specs.Str.{bytes_eq}
-use Rattle.std.proofs.Common.{refl, sym, ap, ◌∙◌, subst}
+use Rattle.std.proofs.Common.{refl, sym, subst}
 use Rattle.std.proofs.lemmas.Slice.Eq.{bytes_eq-Decides}
 use Rattle.zw_def.specs.Text.{Text}
-use Rattle.zw_def.specs.ConstantPath.{ConstantPath}
-use Rattle.zw_def.specs.Nesting.{same_names}
-use Rattle.zw_def.specs.Map.{key_at}
-use Rattle.zw_def.specs.Wrong.{wrong_below}
-use Rattle.zw_def_world.specs.Id.{Id, Records, id_eq, changed_at, with_record}
-use Rattle.zw_def_world.specs.CoreClass.{Object_class, main_id}
-use Rattle.zw_def_world.specs.Value.{Value, module_at}
-use Rattle.zw_def_world.specs.Table.{Table, at, assigned}
-use Rattle.zw_def_world.specs.Record.{Body, code, reader, writer, primitive, Method, Module, Object, new_object, with_constant, with_home}
-use Rattle.zw_def_world.specs.World.{World, Setting as WorldSetting, idle, done, is_idle}
-use Rattle.zw_def_world.specs.CoreWorld.{core_modules, object_class, records_of}
-use Rattle.zw_def_world.specs.LookUp.{if_idle}
-use Rattle.zw_def_world.specs.Frame.{top_frame}
-use Rattle.zw_def_world.specs.Act.{Point}
+use Rattle.zw_def_world.specs.Id.{Id, Records, id_eq}
+use Rattle.zw_def_world.specs.Table.{Table, at}
+use Rattle.zw_def_world.specs.Record.{Body, code, reader, writer, primitive, Method, Module}
+use Rattle.zw_def_world.specs.CoreWorld.{core_modules, records_of}
 use Rattle.zw_def_session.specs.Plain.{is_special}
-use Rattle.zw_fresh.specs.CalmCode.{is_plain_name, is_special_row, PlainBody, PlainMethods, PlainWorld}
-use Rattle.zw_fresh.specs.Alike.{IsThere, Met, Constant, Modules, Objects, state_there, shows, Worlds, Points}
-use Rattle.zw_fresh.specs.Naming.{no_old}
-use Rattle.zw_fresh.proofs.NameLemmas.{apart, id_eq_is}
-use Rattle.zw_fresh.proofs.TableLemmas.{at-assigned}
-use Rattle.zw_fresh.proofs.FrameLaws.{top_frames}
-use Rattle.zw_fresh.proofs.CalmInstance.{name, path, key, namespace, namespace_id, Owes, Due, none_some, some_same, as_named, one_namespace}
-use Rattle.zw_fresh.proofs.OwedModuleLaws.{made_in, after}
-use Rattle.zw_fresh.proofs.SelfLemmas.{value_self, module_self, object_self}
+use Rattle.zw_fresh.specs.CalmCode.{is_plain_name, is_special_row, PlainBody, PlainMethods}
+use Rattle.zw_fresh.proofs.NameLemmas.{apart}
+use Rattle.zw_fresh.proofs.CalmInstance.{none_some, some_same}
 
 -- ---- methods
 

@@ -31,7 +31,6 @@ use Rattle.zw_fresh.proofs.KeyLaws.{loadable_same, in_record_alike, changing_mod
 use Rattle.zw_fresh.proofs.KernelRowLaws.{on_module_row, by_first}
 use Rattle.zw_fresh.proofs.ModuleQuestionLaws.{back_found, include_same, extension_same, hidden_same}
 
-
 -- ---- acts
 
 module _ {calm : Bool} {S : Setting calm} {old : Text → Bool} where

@@ -9,6 +9,7 @@ ghost use Rattle.zw_fresh.specs.Calm.{Handed, PlainIsAlike, PlainProgramsAreAlik
 /// is owed where the key is done already.
 pub trait Calm {
     ghost setting: { Setting true };
+
     ghost handed: { Handed setting };
 }
 

@@ -7,6 +7,10 @@
 //! the law for a world that came from an image, `reached_is_fresh` for each session that commands reach from an opening,
 //! `reload_is_opening` and `reload_serves_as_opening` for two processes that open, one of which reloads; each for all
 //! commands, further reloads among them.
+//!
+//! The same relation and the same induction compare two worlds of which one has loaded keys that are idle in the other:
+//! `plain_is_alike` states for each setting of that kind (`Calm`) that plain programs answer alike, if methods are plain
+//! and the loads of those keys are owed. That calm trees give such settings is not stated yet.
 #![tactic(auto)]
 
 mod again;
@@ -15,6 +19,6 @@ mod law;
 mod reached;
 
 pub use again::{reload_is_opening, reload_serves_as_opening};
-pub use calm::{plain_is_alike, Calm};
+pub use calm::{Calm, plain_is_alike};
 pub use law::reload_is_fresh;
 pub use reached::reached_is_fresh;
