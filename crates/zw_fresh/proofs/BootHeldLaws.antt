@@ -27,6 +27,7 @@ use Rattle.zw_fresh.specs.Renaming.{lifted, ren, ren_module}
 use Rattle.zw_fresh.specs.Alike.{IsThere, NoneLost, Setting, Met, Worlds, Points}
 use Rattle.zw_fresh.specs.Naming.{no_old}
 use Rattle.zw_fresh.specs.Setups.{Past}
+use Rattle.zw_fresh.proofs.OptionLemmas.{some_same}
 use Rattle.zw_fresh.proofs.NameLemmas.{id_eq_self, ids_decide, apart}
 use Rattle.zw_fresh.proofs.SetupLaws.{acts_stay_past, acts_keep_setups}
 use Rattle.zw_fresh.proofs.TableLemmas.{at-made}
@@ -40,9 +41,6 @@ use Rattle.zw_fresh.proofs.FreshLaws.{same_test}
 use Rattle.zw_fresh.proofs.BootLaws.{boot_end, core_alike, self_alike}
 use Rattle.zw_fresh.proofs.CoreLaws.{first_setups, world_past, core_there}
 use Rattle.zw_fresh.proofs.HeldLaws.{HoldsThere, TablesHold}
-
-some_same : {A : Type 0} {x y : A} → Some x ≡ Some y → x ≡ y
-some_same e = cc
 
 -- ---- names of modules that are there
 

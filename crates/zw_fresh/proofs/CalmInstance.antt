@@ -18,6 +18,7 @@ use Rattle.zw_def_world.specs.Meeting.{with_meeting}
 use Rattle.zw_fresh.specs.CalmCode.{PlainWorld}
 use Rattle.zw_fresh.specs.Renaming.{Names}
 use Rattle.zw_fresh.specs.Alike.{IsThere, ChangesVariables, Setting}
+use Rattle.zw_fresh.proofs.OptionLemmas.{some_same, none_some}
 use Rattle.zw_fresh.proofs.NameLemmas.{apart, id_eq_is}
 
 -- ---- the namespace, and its module
@@ -109,12 +110,6 @@ pub record Before (m₀ m : Module) : Type 0 where
   pub methods : m.methods ≡ m₀.methods
   pub singleton : m.singleton ≡ m₀.singleton
   pub home : m.home ≡ m₀.home
-
-pub none_some : {A B : Type 0} {x : A} → None ≡ Some x → B
-none_some {A} {B} {x} e = absurd (let never : ⊥ = cc in never)
-
-pub some_same : {A : Type 0} {x y : A} → Some x ≡ Some y → x ≡ y
-some_same e = cc
 
 was_before : (i : Id) (g : Module → Module) → ChangesVariables g → (records : Records Module) (j : Id) (m : Module)
     → changed_at i g records j ≡ Some m → (m₀ : Module) × (records j ≡ Some m₀) × Before m₀ m

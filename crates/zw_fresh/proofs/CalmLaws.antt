@@ -1,7 +1,7 @@
 -- The law for calm settings: for plain trees, and for the plain programs of texts.
-use Rattle.std.specs.Prelude.{◌≡◌, ◌&&◌, ◌||◌, ◌++◌, ℕ, zero, suc, length, Bool, true, false, List, [], ◌∷◌, Option, Some, None, Result, Ok, Err, if◌then◌else◌}
+use Rattle.std.specs.Prelude.{◌≡◌, ◌||◌, ◌++◌, ℕ, zero, suc, length, Bool, true, false, List, [], ◌∷◌, Option, Some, None, Result, Ok, Err, if◌then◌else◌}
 use Rattle.std.specs.List.{list_all}
-use Rattle.std.proofs.Common.{refl, sym, subst}
+use Rattle.std.proofs.Common.{refl, subst}
 use Rattle.zw_def.specs.Text.{Text}
 use Rattle.zw_def_syntax.specs.Token.{Token, Reason, Fault, malformed}
 use Rattle.zw_def_syntax.specs.Lexed.{lexed}
@@ -19,7 +19,7 @@ use Rattle.zw_fresh.specs.Renaming.{ren}
 use Rattle.zw_fresh.specs.Naming.{ProgramNamesNone}
 use Rattle.zw_fresh.specs.Alike.{Setting}
 use Rattle.zw_fresh.specs.Calm.{Handed, PlainIsAlike, PlainProgramsAreAlike}
-use Rattle.zw_fresh.proofs.NameLemmas.{apart}
+use Rattle.zw_fresh.proofs.NodeLemmas.{both_true}
 use Rattle.zw_fresh.proofs.ActLaws.{Alike, gives_alike, on_alike}
 use Rattle.zw_fresh.proofs.CallLaws.{Evaluates}
 use Rattle.zw_fresh.proofs.EvaluationLaws.{run_evaluates}
@@ -92,10 +92,6 @@ text_placed known text program e = by (lexed text) e
     by (Err fault) e = err_ok e
 
 -- ---- plain programs
-
-both_true : (a b : Bool) → (a && b) ≡ true → (a ≡ true) × (b ≡ true)
-both_true true b e = (refl, e)
-both_true false b e = absurd (apart (sym e))
 
 module _ {S : Setting true} {go : Tree → Act} (E : Evaluates S go) {old : Text → Bool} where
   program_alike : (v : Value) (program : Program) → ProgramNamesNone old program → IsPlaced program

@@ -19,14 +19,12 @@ use Rattle.zw_def_world.proofs.LoadLaws.{asks_keeps}
 use Rattle.zw_fresh.specs.Renaming.{lifted, ren, ren_flow}
 use Rattle.zw_fresh.specs.Alike.{Setting, IsThere, Met, Constant, Modules, shows, Points, Short, EndsAlike, Ends}
 use Rattle.zw_fresh.specs.Calm.{IsOwed, LoadsAreOwed}
+use Rattle.zw_fresh.proofs.OptionLemmas.{some_same}
 use Rattle.zw_fresh.proofs.EndLaws.{Grows, Spends, ends_at}
 use Rattle.zw_fresh.proofs.ActLaws.{Alike}
 use Rattle.zw_fresh.proofs.WorldLaws.{met_same}
 use Rattle.zw_fresh.proofs.CalmKeyLaws.{loadable_not_shown}
 use Rattle.zw_fresh.proofs.NameLemmas.{apart}
-
-some_same : {A : Type 0} {x y : A} → Some x ≡ Some y → x ≡ y
-some_same e = cc
 
 abbrev is_gave : Flow → Bool
 is_gave (gave v) = true

@@ -11,8 +11,9 @@ use Rattle.zw_def_world.specs.Record.{Body, code, reader, writer, primitive, Met
 use Rattle.zw_def_world.specs.CoreWorld.{core_modules, records_of}
 use Rattle.zw_def_session.specs.Plain.{is_special}
 use Rattle.zw_fresh.specs.CalmCode.{is_plain_name, is_special_row, PlainBody, PlainMethods}
+use Rattle.zw_fresh.proofs.NodeLemmas.{both_true}
 use Rattle.zw_fresh.proofs.NameLemmas.{apart}
-use Rattle.zw_fresh.proofs.CalmInstance.{none_some, some_same}
+use Rattle.zw_fresh.proofs.OptionLemmas.{none_some, some_same}
 
 -- ---- methods
 
@@ -22,10 +23,6 @@ is_plain_body x (code c) = false
 is_plain_body x (reader y) = true
 is_plain_body x (writer y) = true
 is_plain_body x (primitive row) = not (is_special_row row) || is_special x
-
-both_true : (a b : Bool) → (a && b) ≡ true → (a ≡ true) × (b ≡ true)
-both_true true b e = (refl, e)
-both_true false b e = absurd (apart (sym e))
 
 body_plain : (x : Text) (b : Body) → is_plain_body x b ≡ true → PlainBody true x b
 unfolding is_plain_name

@@ -1,4 +1,5 @@
 pub mod NameLemmas
+pub mod OptionLemmas
 pub mod SetupLaws
 pub mod TableLemmas
 pub mod GrowingLaws

@@ -24,7 +24,8 @@ use Rattle.zw_fresh.specs.Naming.{no_old}
 use Rattle.zw_fresh.proofs.NameLemmas.{id_eq_is}
 use Rattle.zw_fresh.proofs.TableLemmas.{at-assigned}
 use Rattle.zw_fresh.proofs.FrameLaws.{top_frames}
-use Rattle.zw_fresh.proofs.CalmInstance.{name, path, key, namespace, namespace_id, Due, some_same, as_named, one_namespace}
+use Rattle.zw_fresh.proofs.OptionLemmas.{some_same}
+use Rattle.zw_fresh.proofs.CalmInstance.{name, path, key, namespace, namespace_id, Due, as_named, one_namespace}
 use Rattle.zw_fresh.proofs.CorePlainLaws.{core, core_so, core_methods, core_singleton, core_homeless}
 use Rattle.zw_fresh.proofs.OwedModuleLaws.{made_in, after}
 use Rattle.zw_fresh.proofs.SelfLemmas.{value_self, module_self, object_self}

@@ -1,10 +1,14 @@
 -- Where no node of a tree passes a test, the tree does not, and none of its parts does.
-use Rattle.std.specs.Prelude.{◌≡◌, ◌||◌, Bool, true, false, Option}
-use Rattle.std.proofs.Common.{refl}
+use Rattle.std.specs.Prelude.{◌≡◌, ◌&&◌, ◌||◌, Bool, true, false, Option}
+use Rattle.std.proofs.Common.{refl, sym}
 use Rattle.zw_def.specs.Text.{Text}
 use Rattle.zw_def_syntax.specs.Tree.{Tree, Trees, Parts, Rescues, nil_node, true_node, false_node, self_node, int_node, str_node, sym_node, interp_node, array_node, local_node, ident_node, ivar_node, cvar_node, const_node, scoped_node, top_const_node, set_local, set_ivar, set_cvar, set_const, set_scoped, set_attr, call_node, self_call, super_node, zsuper_node, not_node, and_node, or_node, if_node, while_node, break_node, next_node, return_node, seq_node, begin_node, def_node, sdef_node, class_node, module_node, tree_then, present, branch, text_then, program_then, rescue_then}
 use Rattle.zw_def_syntax.specs.Places.{Place, loop_body, method_body, class_body, some_node, some_tree, some_perhaps, some_branch, some_base, some_part, some_rescue, some_default}
 use Rattle.zw_fresh.proofs.NameLemmas.{apart}
+
+pub both_true : (a b : Bool) → (a && b) ≡ true → (a ≡ true) × (b ≡ true)
+both_true true b e = (refl, e)
+both_true false b e = absurd (apart (sym e))
 
 pub or2 : (a b : Bool) → (a || b) ≡ false → (a ≡ false) × (b ≡ false)
 or2 true b e = absurd (apart e)

@@ -24,7 +24,8 @@ use Rattle.zw_fresh.specs.CalmCode.{PlainMethods}
 use Rattle.zw_fresh.specs.Calm.{IsOwed, LoadsAreOwed, Handed}
 use Rattle.zw_fresh.proofs.NameLemmas.{apart, names_decide, id_eq_is}
 use Rattle.zw_fresh.proofs.TableLemmas.{at-assigned}
-use Rattle.zw_fresh.proofs.CalmInstance.{name, path, key, namespace, Due, none_some, some_same, one_if, one_namespace}
+use Rattle.zw_fresh.proofs.OptionLemmas.{none_some, some_same}
+use Rattle.zw_fresh.proofs.CalmInstance.{name, path, key, namespace, Due, one_if, one_namespace}
 use Rattle.zw_fresh.proofs.OwedModuleLaws.{made_in, after, with_namespace, not_object, modules_after}
 
 -- ---- what is due after the load

@@ -18,7 +18,8 @@ use Rattle.zw_def_world.specs.LookUp.{if_idle}
 use Rattle.zw_fresh.specs.Alike.{IsThere, Met, Constant, Modules, shows}
 use Rattle.zw_fresh.proofs.NameLemmas.{apart, id_eq_is}
 use Rattle.zw_fresh.proofs.TableLemmas.{at-assigned}
-use Rattle.zw_fresh.proofs.CalmInstance.{name, path, namespace, namespace_id, Owes, Due, none_some, one_namespace}
+use Rattle.zw_fresh.proofs.OptionLemmas.{none_some}
+use Rattle.zw_fresh.proofs.CalmInstance.{name, path, namespace, namespace_id, Owes, Due, one_namespace}
 
 -- ---- what stands after the load
 

@@ -15,6 +15,7 @@ use Rattle.zw_def_world.specs.MethodLine.{Place, line_of, table_at, method_at, F
 use Rattle.zw_def_world.specs.Frame.{Running}
 use Rattle.zw_def_world.specs.Call.{line_behind, next_in, next_method}
 use Rattle.zw_fresh.specs.CalmCode.{Calmly, is_plain_name, PlainName, PlainRunning, PlainRow, Plain, AllPlain, PerhapsPlain, BranchPlain, PartsPlain, RescuesPlain, DefaultsPlain, PlainBody, PlainWorld}
+use Rattle.zw_fresh.proofs.OptionLemmas.{some_same, none_some}
 
 -- ---- a setting that is not calm
 
@@ -138,12 +139,6 @@ module _ (calm : Bool) where
 -- ---- methods that are found
 
 -- what is found in steps, was found at each
-none_some : {A B : Type 0} {x : A} → None ≡ Some x → B
-none_some {A} {B} {x} e = absurd (let never : ⊥ = cc in never)
-
-some_same : {A : Type 0} {x y : A} → Some x ≡ Some y → x ≡ y
-some_same e = cc
-
 -- what is found in steps, was found at each
 bind_found : {A B : Type 0} (o : Option A) (k : A → Option B) (y : B) → bind o k ≡ Some y → (x : A) × (k x ≡ Some y)
 bind_found None k y e = none_some e
