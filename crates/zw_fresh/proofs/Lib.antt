@@ -70,3 +70,4 @@ pub mod NamingLaws
 pub mod NodeLemmas
 pub mod PlainTreeLaws
 pub mod CalmLaws
+pub mod MountLaws

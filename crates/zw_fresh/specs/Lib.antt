@@ -12,3 +12,4 @@ pub mod Reached
 pub mod Places
 pub mod Again
 pub mod Served
+pub mod Mountable

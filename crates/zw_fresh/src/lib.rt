@@ -16,9 +16,11 @@
 mod again;
 mod calm;
 mod law;
+mod mount;
 mod reached;
 
 pub use again::{reload_is_opening, reload_serves_as_opening};
 pub use calm::{Calm, plain_is_alike};
 pub use law::reload_is_fresh;
+pub use mount::mountable_is_mounted;
 pub use reached::reached_is_fresh;
