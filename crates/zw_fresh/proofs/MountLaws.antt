@@ -1,18 +1,18 @@
 -- A folder that lists the files of a tree in their order mounts the tree.
-use Rattle.std.specs.Prelude.{◌≡◌, ℕ, suc, ◌+◌, ◌≤◌, ◌<◌, ◌&&◌, ◌||◌, ◌++◌, Bool, true, false, not, nat_lt, List, [], ◌∷◌, length, drop, map, Option, Some, None, Result, Ok, Err, codes, if◌then◌else◌}
-use Rattle.std.specs.List.{list_any, AllByRecursion, sum_by}
+use Rattle.std.specs.Prelude.{◌≡◌, ℕ, suc, ◌≤◌, ◌&&◌, ◌||◌, ◌++◌, Bool, true, false, not, nat_lt, List, [], ◌∷◌, length, map, Some, None, Result, Ok, Err, codes, if◌then◌else◌}
+use Rattle.std.specs.List.{AllByRecursion}
 use Rattle.std.specs.Str.{bytes_eq}
 use Rattle.std.proofs.Common.{refl, sym, ap, ◌∙◌, subst, arith, ltb-true, append_assoc, append-nil, length-append}
 use Rattle.std.proofs.lemmas.Slice.Eq.{bytes_eq-Decides}
 use Rattle.std.proofs.lemmas.List.Sums.{sum_by-append}
 use Rattle.zw_def.specs.Text.{Text}
-use Rattle.zw_def.specs.Path.{Path, path_text, same_path, is_below, precedes}
-use Rattle.zw_def.specs.Tree.{File, Tree, is_ruby_path, is_in_the_way, admits, with_file, size_of}
-use Rattle.zw_def.specs.Folder.{Listing, bytes_at, unlisted}
+use Rattle.zw_def.specs.Path.{Path, path_text, precedes}
+use Rattle.zw_def.specs.Tree.{File, Tree, is_in_the_way, admits, with_file, size_of}
+use Rattle.zw_def.specs.Folder.{Listing, bytes_at}
 use Rattle.zw_def.proofs.PathOrderLemmas.{precedes_back, same_behind}
 use Rattle.zw_def_session.specs.Answers.{max_files, max_file, max_tree}
 use Rattle.zw_def_session.specs.Opening.{Refusal, listed_path, past_tree_limit, unless_past, mounted_file, mounted_path, mounted_from, max_listed, past_limit, listed_tree}
-use Rattle.zw_fresh.specs.Mountable.{IsListed, StandsBefore, InOrder, IsMountable, MountableIsMounted}
+use Rattle.zw_fresh.specs.Mountable.{IsListed, StandsBefore, InOrder, MountableIsMounted}
 use Rattle.zw_fresh.proofs.NameLemmas.{apart}
 use Rattle.zw_fresh.proofs.OptionLemmas.{some_same}
 
@@ -74,9 +74,9 @@ bytes_listed fixed [] h o = tt
 bytes_listed fixed (f ∷ fs) h o = (
   ap (λ b. if b then Some f.text else bytes_at (path_text f.path) (pairs fs)) ((bytes_eq-Decides (path_text f.path) (path_text f.path)).1 refl),
   all_with {Q = λ g. bytes_at (path_text g.path) (pairs fs) ≡ Some g.text} (λ g differs found.
-  ap (λ b. if b then Some f.text else bytes_at (path_text g.path) (pairs fs)) differs ∙ found) fs
-  (all_with {Q = StandsBefore f} (λ g listed before. other_text fixed f g h.0 listed before) fs h.1 o.0)
-  (bytes_listed fixed fs h.1 o.1),
+      ap (λ b. if b then Some f.text else bytes_at (path_text g.path) (pairs fs)) differs ∙ found) fs
+      (all_with {Q = StandsBefore f} (λ g listed before. other_text fixed f g h.0 listed before) fs h.1 o.0)
+      (bytes_listed fixed fs h.1 o.1),
 )
 
 -- ---- one file more

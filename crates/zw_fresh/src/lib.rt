@@ -10,7 +10,8 @@
 //!
 //! The same relation and the same induction compare two worlds of which one has loaded keys that are idle in the other:
 //! `plain_is_alike` states for each setting of that kind (`Calm`) that plain programs answer alike, if methods are plain
-//! and the loads of those keys are owed. That calm trees give such settings is not stated yet.
+//! and the loads of those keys are owed. That calm trees give such settings is not stated yet. `mountable_is_mounted` states
+//! that some folder mounts each tree that a folder can hold.
 #![tactic(auto)]
 
 mod again;
