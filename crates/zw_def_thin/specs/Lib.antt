@@ -6,6 +6,5 @@ pub mod Refusal
 pub mod Limit
 pub mod Mount
 pub mod Root
-pub mod Command
 pub mod Output
 pub mod Session

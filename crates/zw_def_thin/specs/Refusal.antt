@@ -10,11 +10,12 @@ pub data Refusal : Type 0 where
   no_configuration : Refusal
   bad_configuration : Fault → Refusal
   other_configuration : Refusal
-  other_file : Path → Refusal
   long_listing : Refusal
   many_files : Refusal
   large_file : Path → Refusal
   large_tree : Refusal
+  -- by its text
+  bad_namespace : Text → Refusal
 
 -- how a session ends by itself
 pub data Ending : Type 0 where
@@ -29,22 +30,22 @@ line_of_refusal bad_words = codes "usage: zw [--budget N] [--log] [--steps] [--e
 line_of_refusal no_configuration = codes "config: missing"
 line_of_refusal (bad_configuration fault) = codes "config: " ++ fault_text fault
 line_of_refusal other_configuration = codes "config: not built"
-line_of_refusal (other_file path) = codes "not built: " ++ path_text path
 line_of_refusal long_listing = codes "limit: listing"
 line_of_refusal many_files = codes "limit: files"
 line_of_refusal (large_file path) = codes "limit: file " ++ path_text path
 line_of_refusal large_tree = codes "limit: tree"
+line_of_refusal (bad_namespace text) = codes "config: namespace " ++ text
 
 abbrev pub ending_of_refusal : Refusal → Ending
 ending_of_refusal bad_words = usage
 ending_of_refusal no_configuration = configuration
 ending_of_refusal (bad_configuration fault) = configuration
 ending_of_refusal other_configuration = configuration
-ending_of_refusal (other_file path) = configuration
 ending_of_refusal long_listing = limit
 ending_of_refusal many_files = limit
 ending_of_refusal (large_file path) = limit
 ending_of_refusal large_tree = limit
+ending_of_refusal (bad_namespace text) = configuration
 
 -- a value, or the first refusal on the way to it
 abbrev pub Start : Type 0 → Type 0

@@ -21,4 +21,3 @@ mod path;
 #[cfg(test)]
 mod table;
 #[cfg(test)]
-mod tree;

@@ -1,18 +1,19 @@
 -- What boot keeps out of the map, by the numbers of names.
 use Rattle.std.proofs.Common.{◌≡◌, ℕ, zero, suc, ◌+◌, ◌-◌, ◌<◌, ◌≤◌, ◌⊎◌, inl, inr, Bool, true, false, not, ◌&&◌, cond, List, [], ◌∷◌, map, length, take, get_or, Option, Some, None, refl, ap, sym, ◌∙◌, arith, add-one, subst, nat_eq}
 use Rattle.std.specs.List.{find}
-use Rattle.std.specs.Option.{option_map_or, option_or, is_some}
+use Rattle.std.specs.Option.{option_map, option_map_or, option_or, is_some, unwrap_or}
 use Rattle.std.specs.Str.{bytes_eq}
 use Rattle.std.specs.Cmp.Lexicographic.{nat_list_eq_equiv, pointwise}
 use Rattle.std.proofs.lemmas.List.{take-map, length-map}
 use Rattle.std.proofs.lemmas.List.Elements.{All-head, All-tail, All-cons}
+use Rattle.std.proofs.lemmas.Option.{same_Some}
 use Rattle.zw_lemmas.proofs.FindLemmas.{find-as}
 use Rattle.zw_def.specs.Text.{Text}
 use Rattle.zw_def.specs.Names.{AreNamed, IsDistinct, text_of, texts_of}
 use Rattle.zw_def.specs.Nesting.{same_names, proper_beginnings}
 use Rattle.zw_def.specs.Map.{is_taken, is_defined, kept_out_by}
 use Rattle.zw_def.proofs.NameLemmas.{text_as}
-use Rattle.zw_map.specs.BootSeen.{AreBootNamed, boot_seen, standing_of, row_at, is_taken_at, is_defined_at}
+use Rattle.zw_map.specs.BootSeen.{AreBootNamed, boot_seen, standing_of, row_at, is_own, is_taken_at, is_defined_at}
 
 -- ---- the first row with a path
 
@@ -35,6 +36,19 @@ module _ {X : Type 0} (test : X → Bool) where
     at : (b : Bool) → cond b (Some z) (find test (take i xs)) ≡ None → (find test (take i xs) ≡ None → find test xs ≡ Some x) → cond b (Some z) (find test xs) ≡ Some x
     at true n more = cc
     at false n more = more n
+
+-- what the first row says, where there is one
+pub row_taken : (o : Option (List ℕ × Bool)) (own : Bool) → Some own ≡ option_map (λ (row : List ℕ × Bool). row.1) o → not own ≡ option_map_or (λ (row : List ℕ × Bool). not row.1) o false
+row_taken None own is = absurd (cc)
+row_taken (Some row) own is = ap not (same_Some own row.1 is)
+
+pub row_not_taken : (o : Option (List ℕ × Bool)) → None ≡ option_map (λ (row : List ℕ × Bool). row.1) o → false ≡ option_map_or (λ (row : List ℕ × Bool). not row.1) o false
+row_not_taken None is = refl
+row_not_taken (Some row) is = absurd (cc)
+
+pub row_defined : (o : Option (List ℕ × Bool)) → is_some (option_map (λ (row : List ℕ × Bool). row.1) o) ≡ is_some o
+row_defined None = refl
+row_defined (Some row) = refl
 
 -- ---- the beginnings of a path
 
@@ -120,6 +134,16 @@ module _ (names : List Text) (distinct : IsDistinct names) where
       flag false r = refl
 
       by : (o : Option (List ℕ × Bool)) → is_defined (standing_of o) ≡ is_some o
+      by None = refl
+      by (Some row) = flag row.1 row.0
+
+    pub own_told : (q : List ℕ) → AreNamed names q → is_own (boot_seen names boot (texts_of names q)) ≡ unwrap_or (option_map (λ (row : List ℕ × Bool). row.1) (row_at boot q)) false
+    own_told q is = ap (λ o. is_own (standing_of o)) (row_told q is) ∙ by (row_at boot q) where
+      flag : (b : Bool) (r : List ℕ) → is_own (standing_of (Some (r, b))) ≡ b
+      flag true r = refl
+      flag false r = refl
+
+      by : (o : Option (List ℕ × Bool)) → is_own (standing_of o) ≡ unwrap_or (option_map (λ (row : List ℕ × Bool). row.1) o) false
       by None = refl
       by (Some row) = flag row.1 row.0
 

@@ -1,5 +1,5 @@
 -- What boot defines, from a list of paths: with true exactly where it is a module of that very name.
-use Rattle.std.specs.Prelude.{ℕ, Bool, false, not, List, if◌then◌else◌, Option, Some, None}
+use Rattle.std.specs.Prelude.{ℕ, Bool, true, false, not, List, if◌then◌else◌, Option, Some, None}
 use Rattle.std.specs.List.{All, find}
 use Rattle.std.specs.Option.{option_map_or, is_some}
 use Rattle.std.specs.Str.{bytes_eq}
@@ -14,6 +14,11 @@ standing_of (Some row) = if row.1 then own_module else taken
 
 abbrev pub boot_seen : List Text → List (List ℕ × Bool) → Boot
 boot_seen names boot p = standing_of (find (λ row. same_names (texts_of names row.0) p) boot)
+
+-- a module of that very name
+abbrev pub is_own : Standing → Bool
+is_own own_module = true
+is_own _ = false
 
 -- the names of the paths are among these
 abbrev pub AreBootNamed : List Text → List (List ℕ × Bool) → Type 0

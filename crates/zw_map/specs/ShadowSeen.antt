@@ -2,7 +2,7 @@
 use Rattle.std.specs.Prelude.{List, [], ◌∷◌, if◌then◌else◌, Option, None}
 use Rattle.zw_def.specs.Text.{Text}
 use Rattle.zw_def.specs.Path.{Path, same_path}
-use Rattle.zw_def.specs.Names.{texts_of}
+use Rattle.zw_def.specs.Names.{AreNamed, texts_of}
 use Rattle.zw_def.specs.Map.{Boot, Expecting}
 use Rattle.zw_def.specs.Shadow as defined
 use Rattle.zw_scan.specs.ClaimTold.{ClaimTold}
@@ -19,6 +19,14 @@ row_of path shade = record { path = path; shade = shade }
 
 abbrev pub shadow_seen : List Text → ShadowRow → defined.Shadowed
 shadow_seen names row = record { path = row.path; shade = shade_seen names row.shade }
+
+-- the names of the constant that boot defines are among these
+abbrev pub IsShadeNamed : List Text → Shade → Type 0
+IsShadeNamed names (By path) = Unit {0}
+IsShadeNamed names (Defined p) = AreNamed names p
+
+abbrev pub IsShadowNamed : List Text → ShadowRow → Type 0
+IsShadowNamed names row = IsShadeNamed names row.shade
 
 -- the file, unless it is the first of these
 abbrev pub after_winner : Path → List Path → Option defined.Shadowed

@@ -9,6 +9,7 @@ mod named;
 mod shadow;
 mod sorted;
 
+pub use boot::is_module;
 pub use expect::{all_expected, expected};
 pub use key::{Key, KeyRow, keys};
 pub use named::are_boot_named;

@@ -1,5 +1,5 @@
 //! Files that no key loads although they are expected to define a constant (Zeitwerk README, "Shadowed files").
-ghost use Rattle.std.specs.Prelude.{◌≡◌, ◌++◌, [], List, Some, IfOk, OnOk, map, option_map};
+ghost use Rattle.std.specs.Prelude.{◌≡◌, ◌++◌, [], List, Some, IfOk, IfSome, OnOk, map, option_map};
 ghost use Rattle.std.specs.List.{All, cons_option};
 ghost use Rattle.zw_def.specs.Text.{Text};
 ghost use Rattle.zw_def.specs.Tree.{Tree as Files};
@@ -10,7 +10,7 @@ ghost use Rattle.zw_def.specs.Shadow.{shadowed, shadowed_as, unless_defined};
 ghost use Rattle.zw_scan.specs.ClaimSeen.{IsNamed, expected_seen};
 ghost use Rattle.zw_scan.specs.IsScan.{IsScan, IsScanNamed};
 ghost use Rattle.zw_map.specs.BootSeen.{AreBootNamed, boot_seen};
-ghost use Rattle.zw_map.specs.ShadowSeen.{after_winner, row_of, shadow_seen};
+ghost use Rattle.zw_map.specs.ShadowSeen.{IsShadowNamed, after_winner, row_of, shadow_seen};
 
 use crate::boot::kept_out;
 use std::alloc::{AllocError, Global};
@@ -50,7 +50,8 @@ fn behind_winner(
     path: &Path,
     files: &[Path],
 ) -> Result<Option<ShadowRow>, AllocError>
-    ensures { IfOk result (λ row. (names : List Text) → option_map (shadow_seen names) row ≡ after_winner path.now files.now) }
+    ensures told { IfOk result (λ row. (names : List Text) → option_map (shadow_seen names) row ≡ after_winner path.now files.now) }
+    ensures named { IfOk result (λ row. (names : List Text) → IfSome row (IsShadowNamed names)) }
 {
     match files.first() {
         Some(first) => {
@@ -75,6 +76,8 @@ fn shadow_at(
         IsScan table layout tree scan.now → IsDistinct table → AreBootNamed table boot.now → AreNamed table names.now →
         option_map (shadow_seen table) row ≡ unless_defined (expecting_files layout tree) path.now
         (texts_of table names.now) (kept_out_by (boot_seen table boot.now) (texts_of table names.now))) }
+    ensures named { IfOk result (λ row. (table : List Text) → AreNamed table names.now →
+        IfSome row (IsShadowNamed table)) }
 {
     match kept_out(alloc, boot, names)? {
         Some(defined) => row(alloc, path, Shade::Defined(defined)),
@@ -93,6 +96,8 @@ fn shadow_of(
         IsScan names layout tree scan.now → IsDistinct names → AreBootNamed names boot.now → IsNamed names claim.now →
         option_map (shadow_seen names) row ≡ shadowed_as (boot_seen names boot.now) (expecting_files layout tree)
         claim.now.path (expected_seen names claim.now.expected)) }
+    ensures named { IfOk result (λ row. (names : List Text) → IsNamed names claim.now →
+        IfSome row (IsShadowNamed names)) }
 {
     match &claim.expected {
         Ok(names) => shadow_at(alloc, scan, boot, &claim.path, names),
@@ -118,8 +123,9 @@ pub fn shadows(
 ) -> Result<Vec<ShadowRow>, AllocError>
     requires scan { IsScanNamed names.now scan.now }
     requires boot { AreBootNamed names.now boot.now }
-    ensures { IfOk result (λ rows. (layout : Shown) (tree : Files) → IsScan names.now layout tree scan.now →
+    ensures told { IfOk result (λ rows. (layout : Shown) (tree : Files) → IsScan names.now layout tree scan.now →
         map (shadow_seen names.now) rows.items ≡ shadowed layout tree (boot_seen names.now boot.now)) }
+    ensures named { IfOk result (λ rows. All (IsShadowNamed names.now) rows.items) }
 {
     names.are_distinct();
     let mut rows = Vec::new(alloc);

@@ -13,8 +13,8 @@ use Rattle.zw_def_thin.specs.Map.{visible, expected_name}
 use Rattle.zw_def_thin.specs.ClassFile.{ClassFile, class_file, is_core}
 use Rattle.zw_def_thin.specs.Built.{Carried, carried, carried_under, may_define, expected_names, first_other, first_other_from}
 use Rattle.zw_def.specs.Names.{with_name}
-use Rattle.zw_thin_tree.specs.File.{file_seen}
-use Rattle.zw_thin_tree.specs.declared.tree.File.{File as TreeFile}
+use Rattle.zw_thin.specs.File.{file_seen}
+use Rattle.zw_thin.specs.declared.file.File.{File as TreeFile}
 use Rattle.zw_thin.specs.Held.{Key}
 use Rattle.zw_thin.specs.Start.{first_key, names_in, with_names, IsFront, AddsKey, TakesKey, HasNoKey}
 use Rattle.zw_def_thin.specs.Evaluation.{world_at}

@@ -8,8 +8,8 @@ use Rattle.zw_def.specs.Names.{text_of, with_name, OnlyGrows}
 use Rattle.zw_def_thin.specs.Built.{carried, may_define, expected_names}
 use Rattle.zw_def_thin.specs.Map.{visible}
 use Rattle.zw_names.specs.declared.names.Name.{Name}
-use Rattle.zw_thin_tree.specs.File.{file_seen}
-use Rattle.zw_thin_tree.specs.declared.tree.File.{File as TreeFile}
+use Rattle.zw_thin.specs.File.{file_seen}
+use Rattle.zw_thin.specs.declared.file.File.{File as TreeFile}
 use Rattle.zw_thin.specs.Held as held
 use Rattle.zw_thin.specs.ClassFile.{class_seen}
 use Rattle.zw_thin.specs.Key.{keys_seen, new_key_seen}

@@ -3,7 +3,7 @@ ghost use Rattle.std.specs.Prelude.{◌≡◌, ◌<◌, IfOk, IfSome, OnOk, opti
 ghost use Rattle.std.specs.Str.{bytes_eq};
 ghost use Rattle.zw_def.specs.Names.{OnlyGrows};
 ghost use Rattle.zw_def_thin.specs.Map.{is_directly_below, expected_name};
-ghost use Rattle.zw_thin_tree.specs.File.{file_seen};
+ghost use Rattle.zw_thin.specs.File.{file_seen};
 ghost use Rattle.zw_thin.specs.ClassFile.{ClassNamed};
 ghost use Rattle.zw_thin.specs.Key.{idle_seen, keys_seen, KeysNamed, NewKeyNamed};
 ghost use Rattle.zw_thin.specs.Held.{idle_file, without_file};
@@ -17,7 +17,7 @@ use std::alloc::{AllocError, Global};
 use zw_base::is_plain_word;
 use zw_names::{Name, Names, is_constant};
 use zw_path::Path;
-use zw_thin_tree::File;
+use crate::file::File;
 
 /// A file that was not evaluated yet.
 #[derive(Drop)]
@@ -45,7 +45,7 @@ fn is_directly_below(root: &Path, path: &Path) -> bool
 }
 
 /// The constant that a file is expected to define, where it stands directly below the root and its base name gives one.
-fn expected_name(alloc: Global, root: &Path, file: &File) -> Result<Option<String>, AllocError>
+fn expected_name(alloc: Global, root: &Path, file: &File<'_>) -> Result<Option<String>, AllocError>
     ensures { IfOk result (λ name. option_map string_bytes name ≡ expected_name root.now (file_seen file.now)) }
 {
     if !is_directly_below(root, &file.path) {
@@ -64,7 +64,7 @@ pub(crate) fn make_names(
     alloc: Global,
     names: &mut Names,
     root: &Path,
-    files: &[File],
+    files: &[File<'_>],
 ) -> Result<(), AllocError>
     ensures { OnOk result (names.new ≡ with_names names.old (visible_names root.now files.now)) }
 {
@@ -98,7 +98,7 @@ fn read(
     names: &mut Names,
     expected: usize,
     root: &Path,
-    file: &File,
+    file: &File<'_>,
 ) -> Result<Option<Key>, AllocError>
     ensures told { IfOk result (ReadsKey expected root.now file.now names.old names.new) }
     ensures named { IfOk result (λ key. IfSome key (NewKeyNamed names.new)) }
@@ -114,7 +114,7 @@ fn read(
         return Ok(None);
     }
     let name = names.intern(&name)?;
-    let Some(class) = class_file::read(alloc, words, names, &file.text)? else {
+    let Some(class) = class_file::read(alloc, words, names, file.text)? else {
         return Ok(None);
     };
     if !may_define(names, expected, name, &class) {
@@ -149,7 +149,7 @@ pub(crate) fn take_in(
     expected: usize,
     root: &Path,
     keys: &mut Keys,
-    file: &File,
+    file: &File<'_>,
 ) -> Result<bool, AllocError>
     requires named { KeysNamed names.old keys.old.entries }
     ensures taken { IfOk result (TakesIn expected names.old root.now file.now

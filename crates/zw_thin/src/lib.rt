@@ -7,10 +7,12 @@
 
 mod class_file;
 mod expression;
+mod file;
 mod inflector;
 mod keys;
 mod session;
 mod table;
 mod words;
 
+pub use file::File;
 pub use session::{NotBuilt, Session, SessionFault};

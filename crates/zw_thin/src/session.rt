@@ -1,9 +1,10 @@
 //! Sessions.
-ghost use Rattle.std.specs.Prelude.{◌≡◌, Some, IfOk, option_map, string_bytes};
+ghost use Rattle.std.specs.Prelude.{◌≡◌, Some, IfOk, map, option_map, string_bytes};
 ghost use Rattle.zw_def_thin.specs.Built.{first_other};
 ghost use Rattle.zw_def_thin.specs.Evaluation.{world_at, called};
 ghost use Rattle.zw_def_thin.specs.Map.{visible};
 ghost use Rattle.zw_base.specs.Fault.{IfRefused};
+ghost use Rattle.zw_thin.specs.File.{file_seen};
 ghost use Rattle.zw_thin.specs.ClassFile.{MethodsNamed};
 ghost use Rattle.zw_thin.specs.Class.{classes_seen, open_seen, ClassesNamed};
 ghost use Rattle.zw_thin.specs.Expression.{expression_seen};
@@ -12,6 +13,7 @@ ghost use Rattle.zw_thin.specs.Held.{idle_file, path_of, after_load, file_used, 
 ghost use Rattle.zw_thin.specs.World.{StandsFor, Answers};
 
 use crate::expression::{self, Ending, Expression, Value};
+use crate::file::File;
 use crate::keys::{Keys, make_names, take_file, take_in};
 use crate::table::{Class, Classes, class_of, open, value_of};
 use crate::words::Words;
@@ -21,7 +23,6 @@ use std::marker::Model;
 use zw_base::Fault;
 use zw_names::Names;
 use zw_path::Path;
-use zw_thin_tree::Tree;
 
 /// The path of the first visible file, in path order, that is not carried out so far.
 #[derive(Debug, Drop)]
@@ -85,18 +86,22 @@ fn ending_of_call<'a>(names: &Names, class: Class<'a>, method: &'a str) -> Endin
 }
 
 impl Session {
-    /// The session of the files that lie below the root, where no constant is set yet.
-    pub fn new(alloc: Global, root: &Path, tree: &Tree) -> Result<Session, SessionFault>
-        ensures ok { IfOk result (StandsFor (world_at root.now tree.now)) }
+    /// The session of those of the files that lie below the root, where no constant is set yet.
+    pub fn new(
+        alloc: Global,
+        root: &Path,
+        files: &[File<'_>],
+    ) -> Result<Session, SessionFault>
+        ensures ok { IfOk result (StandsFor (world_at root.now (map file_seen files.now))) }
         ensures refused { IfRefused result (λ other.
-            first_other root.now (visible root.now tree.now) ≡ Some other.0) }
+            first_other root.now (visible root.now (map file_seen files.now)) ≡ Some other.0) }
     {
         let words = Words::new();
         let mut names = Names::new(alloc)?;
-        make_names(alloc, &mut names, root, tree.files())?;
+        make_names(alloc, &mut names, root, files)?;
         let expected = names.len();
         let mut keys = IndexMap::new(alloc);
-        for file in tree.files() {
+        for file in files {
             if !file.path.is_below(root) {
                 continue;
             }

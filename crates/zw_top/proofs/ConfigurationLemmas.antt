@@ -1,5 +1,5 @@
 -- Arrays of roots of which one alone is built.
-use Rattle.std.proofs.Common.{◌≡◌, ℕ, Bool, true, false, nat_eq, List, [], ◌∷◌, length, refl, rules, tests}
+use Rattle.std.proofs.Common.{◌≡◌, true, false, nat_eq, List, [], ◌∷◌, length, refl, rules, tests}
 use Rattle.toml.specs.View.{items_view, view}
 use Rattle.toml.specs.declared.value.Value.{Value}
 use Rattle.zw_def_thin.specs.Root.{is_one_root, is_plain_root}

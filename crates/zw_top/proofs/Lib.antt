@@ -1,10 +1,11 @@
-pub mod CommandLemmas
 pub mod ConfigurationLemmas
 pub mod ListingLemmas
 pub mod MountLemmas
-pub mod GroupLemmas
-pub mod ServedLemmas
+pub mod StartLemmas
+pub mod SessionLemmas
+pub mod OutputLemmas
+pub mod ScriptLemmas
 pub mod StreamLemmas
-pub mod ReplyLemmas
 pub mod PassingLemmas
+pub mod ReplyLemmas
 pub mod RunLemmas

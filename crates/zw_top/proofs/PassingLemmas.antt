@@ -1,86 +1,64 @@
--- How much of a stream is taken, whatever the world that answers it.
-use Rattle.std.proofs.Common.{◌≡◌, ◌≢◌, ◌≤◌, ◌+◌, ◌++◌, ◌||◌, ℕ, Bool, true, false, List, [], ◌∷◌, Option, Some, None, Ok, Err, IfSome, length, refl, sym, ap, subst, ◌∙◌, append_assoc, arith}
+-- How much of a stream is taken, whatever the session that answers it.
+use Rattle.std.proofs.Common.{◌≡◌, ◌≤◌, ◌+◌, ◌++◌, ℕ, Bool, true, false, List, [], ◌∷◌, Option, Some, None, Ok, Err, IfSome, length, refl, sym, ap, subst, inl, inr, arith}
 use Rattle.std.proofs.lemmas.Option.{same_Some}
 use Rattle.zw_def.specs.Text.{Text}
-use Rattle.zw_def.specs.Line.{line_of, after_line}
 use Rattle.zw_def.specs.Told.{Draws}
-use Rattle.zw_def.proofs.LineLemmas.{within_step}
-use Rattle.zw_def_thin.specs.Command.{Command, command_of}
-use Rattle.zw_def_thin.specs.Output.{is_end, has_end, lines_within}
-use Rattle.zw_io.specs.LineAnswers.{Answers, MeetsEnd}
-use Rattle.zw_io.specs.declared.lines.LineEnd.{LineEnd}
+use Rattle.zw_cmd.specs.Answer.{Answers, Gives, Meets, Spends}
+use Rattle.zw_cmd.specs.Seen.{reading_of}
+use Rattle.zw_cmd.specs.Streams.{next_reading}
+use Rattle.zw_cmd.specs.declared.command.Got as gots
 use Rattle.zw_io.specs.declared.lines.LinesFault.{LinesFault}
-use Rattle.zw_io.specs.declared.lines.LineEnd.TheVariants.{End}
-use Rattle.zw_top.specs.Command.{command_for}
-use Rattle.zw_top.specs.Reply.{EndsFor, CutsShort}
-use Rattle.zw_top.specs.Stream.{TakesFront, LeavesNone, TakesStream}
+use Rattle.zw_top.specs.Reply.{CutsShort, EndsFor}
+use Rattle.zw_top.specs.Script.{Request, request_seen}
+use Rattle.zw_top.specs.Stream.{TakesFront, IsDone, TakesStream}
 use Rattle.zw_top.specs.declared.status.Status.{Status}
 use Rattle.zw_top.specs.declared.status.Status.TheVariants.{Done, Usage, Config, ReadFault, WriteFault, FolderFault, Memory, Limit}
-use Rattle.zw_top.proofs.GroupLemmas.{has_end-append}
-use Rattle.zw_top.proofs.ServedLemmas.{same_command, takes_line}
+use Rattle.zw_top.proofs.ScriptLemmas.{Asked, AskedIfTold, asks_first, asks_next, ends_itself}
 
--- ---- the lines that were given
+-- ---- the requests that were got
 
--- some lines were given, none of them `end`; they and the lines to come are those of the stream
-pub record Passing (all rest : Text) (room : ℕ) : Type 0 where
-  pub lines : List Text
-  pub endless : has_end lines ≡ false
-  pub within : lines_within 1073741824 all ≡ lines ++ lines_within room rest
+pub passes_start : (told left : Option Text) (room : ℕ) (met : Bool) → left ≡ told → room ≡ 1073741824 → AskedIfTold told left room met
+passes_start None left room met same fits = tt
+passes_start (Some all) None room met same fits = absurd (cc)
+passes_start (Some all) (Some rest) room met same fits =
+    ([], subst (λ (t : Text). Asked all t room met []) (sym (same_Some rest all same)) (subst (λ (n : ℕ). Asked all all n met []) (sym fits) (asks_first all met)))
 
-abbrev pub PassesIfTold : Option Text → Option Text → ℕ → Type 0
-PassesIfTold None left room = Unit {0}
-PassesIfTold (Some all) None room = ⊥
-PassesIfTold (Some all) (Some rest) room = Passing all rest room
+passes_by : (g : gots.Got) (asked : Option Request) (all rest : Text) (later : Option Text) (room next : ℕ) (met after : Bool) → asked ≡ request_seen g → (xs : List Request) → Asked all rest room met xs
+    → Gives reading_of next_reading g rest room later next → Meets reading_of next_reading (Ok g) rest later met after → Spends g room next
+    → EndsFor (Ok tt) asked → AskedIfTold (Some all) later next after
+passes_by g None all rest later room next met after is xs passes gives meets spends ends = absurd ends
+passes_by g (Some r) all rest later room next met after is xs passes gives meets spends ends =
+    subst (λ (o : Option Text). AskedIfTold (Some all) o next after) (sym gives.told)
+    (xs ++ r ∷ [], asks_next all rest room next met after g r later xs passes (sym is) gives meets spends)
 
-pub passes_start : (told left : Option Text) (room : ℕ) → left ≡ told → room ≡ 1073741824 → PassesIfTold told left room
-passes_start None left room same fits = tt
-passes_start (Some all) None room same fits = absurd (cc)
-passes_start (Some all) (Some rest) room same fits =
-    let whole : rest ≡ all = same_Some rest all same in
-    record { lines = []; endless = refl; within = rw (whole, fits) refl }
+pub passes_on : (g : gots.Got) (told left later : Option Text) (room next : ℕ) (met after : Bool) → AskedIfTold told left room met
+    → IfSome left (λ bytes. Answers reading_of next_reading (Ok g) bytes room later next) → IfSome left (λ bytes. Meets reading_of next_reading (Ok g) bytes later met after) → Spends g room next
+    → EndsFor (Ok tt) (request_seen g) → AskedIfTold told later next after
+passes_on g None left later room next met after passes answers meets spends ends = tt
+passes_on g (Some all) None later room next met after passes answers meets spends ends = absurd passes
+passes_on g (Some all) (Some rest) later room next met after passes answers meets spends ends =
+    passes_by g (request_seen g) all rest later room next met after refl passes.0 passes.1 answers meets spends ends
 
--- the command that the code read is the line's
-line_command : (end : LineEnd) (bytes into : Text) (room left : ℕ) (later : Option Text) (asked : Command) (b : Bool)
-    → end ≢ End → Answers (Ok end) bytes room into later left → asked ≡ command_for end into → is_end asked ≡ b → is_end (command_of (line_of bytes)) ≡ b
-line_command end bytes into room left later asked b some answers same is =
-    ap is_end (same_command end bytes into room left later some answers ∙ sym same) ∙ is
+-- ---- the end of the requests
 
-pub passes_on : (told left later : Option Text) (end : LineEnd) (into : Text) (room next : ℕ) (asked : Command)
-    → end ≢ End → PassesIfTold told left room → IfSome left (λ bytes. Answers (Ok end) bytes room into later next)
-    → asked ≡ command_for end into → is_end asked ≡ false → PassesIfTold told later next
-passes_on None left later end into room next asked some passes answers same other = tt
-passes_on (Some all) None later end into room next asked some passes answers same other = absurd passes
-passes_on (Some all) (Some rest) later end into room next asked some passes answers same other =
-    let takes = takes_line end rest into room next later some answers in
-    let line = line_of rest in
-    let more = lines_within next (after_line rest) in
-    let step : lines_within room rest ≡ line ∷ more = within_step rest room next takes.some takes.spent in
-    let passing : Passing all (after_line rest) next = record {
-      lines = passes.lines ++ line ∷ [];
-      endless = has_end-append passes.lines line passes.endless (line_command end rest into room next later asked false some answers same other);
-      within = passes.within ∙ ap (λ ls. passes.lines ++ ls) step ∙ sym (append_assoc passes.lines (line ∷ []) more);
-    } in
-    subst (λ (o : Option Text). PassesIfTold (Some all) o next) (sym takes.rest) passing
+-- the end of input was met, and then the source has none left; or the requests end by themselves
+done_by : (g : gots.Got) (all rest : Text) (later source : Option Text) (room : ℕ) (met after : Bool) (a : Bool) → a ≡ after → (xs : List Request) → Asked all rest room met xs → request_seen g ≡ None
+    → Meets reading_of next_reading (Ok g) rest later met after → (after ≡ true → source ≡ Some []) → IsDone all source
+done_by g all rest later source room met after true same xs passes is meets ended = inl (ended (sym same))
+done_by g all rest later source room met after false same xs passes is meets ended = inr (ends_itself all rest room met xs passes g after later is meets (sym same))
 
-or_true : (b : Bool) → (b || true) ≡ true
-or_true true = refl
-or_true false = refl
+pub passes_end : (g : gots.Got) (told left later source : Option Text) (room : ℕ) (met after : Bool) → AskedIfTold told left room met → request_seen g ≡ None
+    → IfSome left (λ bytes. Meets reading_of next_reading (Ok g) bytes later met after) → (after ≡ true → IfSome told (λ bytes. source ≡ Some []))
+    → IfSome told (λ bytes. IsDone bytes source)
+passes_end g None left later source room met after passes is meets ended = tt
+passes_end g (Some all) None later source room met after passes is meets ended = absurd passes
+passes_end g (Some all) (Some rest) later source room met after passes is meets ended =
+    done_by g all rest later source room met after after refl passes.0 passes.1 is meets ended
 
-has_end-at : (lines : List Text) (line : Text) (more : List Text) → is_end (command_of line) ≡ true → has_end (lines ++ line ∷ more) ≡ true
-has_end-at [] line more is = ap (λ b. b || has_end more) is
-has_end-at (l ∷ lines) line more is = ap (λ b. is_end (command_of l) || b) (has_end-at lines line more is) ∙ or_true (is_end (command_of l))
-
--- at the command `end` it is among the lines
-pub passes_end : (told left later : Option Text) (end : LineEnd) (into : Text) (room next : ℕ) (asked : Command)
-    → end ≢ End → PassesIfTold told left room → IfSome left (λ bytes. Answers (Ok end) bytes room into later next)
-    → asked ≡ command_for end into → is_end asked ≡ true → IfSome told (λ bytes. has_end (lines_within 1073741824 bytes) ≡ true)
-passes_end None left later end into room next asked some passes answers same is = tt
-passes_end (Some all) None later end into room next asked some passes answers same is = absurd passes
-passes_end (Some all) (Some rest) later end into room next asked some passes answers same is =
-    let takes = takes_line end rest into room next later some answers in
-    let step = within_step rest room next takes.some takes.spent in
-    ap has_end (passes.within ∙ ap (λ ls. passes.lines ++ ls) step)
-    ∙ has_end-at passes.lines (line_of rest) (lines_within next (after_line rest)) (line_command end rest into room next later asked true some answers same is)
+-- a session that is done is so at the end of the requests
+pub ends_done : (status : Status) (asked : Option Request) → status ≡ Done → EndsFor (Err status) asked → asked ≡ None
+ends_done status None done ends = refl
+ends_done status (Some r) done ends = absurd (subst (λ (s : Status). EndsFor (Err s) (Some r)) done ends)
 
 -- ---- what was taken
 
@@ -91,7 +69,7 @@ takes_front bytes later kept room draws within =
 -- no other status than Done says more
 takes_status : (status : Status) (told later : Option Text) (kept room : ℕ)
     → IfSome told (λ bytes. Draws bytes 0 1073741824 later kept room) → kept ≤ room + 1
-    → (status ≡ Done → IfSome told (λ bytes. LeavesNone bytes later))
+    → (status ≡ Done → IfSome told (λ bytes. IsDone bytes later))
     → IfSome told (λ bytes. TakesStream status bytes later)
 takes_status status None later kept room draws within ends = tt
 takes_status Done (Some bytes) later kept room draws within ends = (takes_front bytes later kept room draws within, ends refl)
@@ -103,27 +81,15 @@ takes_status FolderFault (Some bytes) later kept room draws within ends = takes_
 takes_status Memory (Some bytes) later kept room draws within ends = takes_front bytes later kept room draws within
 takes_status Limit (Some bytes) later kept room draws within ends = takes_front bytes later kept room draws within
 
-pub leaves_by_end : (told later : Option Text) → IfSome told (λ bytes. has_end (lines_within 1073741824 bytes) ≡ true) → IfSome told (λ bytes. LeavesNone bytes later)
-leaves_by_end None later is = tt
-leaves_by_end (Some bytes) later is = λ none. absurd (let e : true ≡ false = sym is ∙ none in cc)
-
--- where the source has none left, nothing is
-pub leaves_at_end : (told later : Option Text) (kept room : ℕ) → IfSome told (λ bytes. Draws bytes 0 1073741824 later kept room)
-    → IfSome told (λ bytes. IfSome later (λ rest. rest ≡ [])) → IfSome told (λ bytes. LeavesNone bytes later)
-leaves_at_end None later kept room draws empty = tt
-leaves_at_end (Some bytes) None kept room draws empty = absurd (let e = draws.told in cc)
-leaves_at_end (Some bytes) (Some rest) kept room draws empty = λ none. ap Some empty
-
--- at the end of input the source has none left
-pub ended_source : (told left later : Option Text) (room : ℕ) (met after : Bool)
-    → PassesIfTold told left room → IfSome left (λ bytes. MeetsEnd (Ok End) bytes met after)
-    → (after ≡ true → IfSome later (λ rest. rest ≡ [])) → IfSome told (λ bytes. IfSome later (λ rest. rest ≡ []))
-ended_source None left later room met after passes meets sound = tt
-ended_source (Some all) None later room met after passes meets sound = absurd passes
-ended_source (Some all) (Some rest) later room met after passes meets sound = sound meets
+-- where the source tells what is left, and has none
+pub none_left : (told later : Option Text) (kept room : ℕ) → IfSome told (λ bytes. Draws bytes 0 1073741824 later kept room)
+    → IfSome later (λ rest. rest ≡ []) → IfSome told (λ bytes. later ≡ Some [])
+none_left None later kept room draws empty = tt
+none_left (Some bytes) None kept room draws empty = absurd (let e = draws.told in cc)
+none_left (Some bytes) (Some rest) kept room draws empty = ap Some empty
 
 -- a stream that is cut short is not done
-pub not_cut : (status : Status) (fault : LinesFault) (told first now later : Option Text) → CutsShort status fault first now → status ≡ Done → IfSome told (λ bytes. LeavesNone bytes later)
+pub not_cut : (status : Status) (fault : LinesFault) (told first now later : Option Text) → CutsShort status fault first now → status ≡ Done → IfSome told (λ bytes. IsDone bytes later)
 not_cut Done fault told first now later cuts done = absurd cuts
 not_cut Usage fault told first now later cuts done = absurd (cc)
 not_cut Config fault told first now later cuts done = absurd (cc)
@@ -132,9 +98,6 @@ not_cut WriteFault fault told first now later cuts done = absurd (cc)
 not_cut FolderFault fault told first now later cuts done = absurd (cc)
 not_cut Memory fault told first now later cuts done = absurd (cc)
 not_cut Limit fault told first now later cuts done = absurd (cc)
-
-pub ends_done : (status : Status) (asked : Command) → status ≡ Done → EndsFor (Err status) asked → is_end asked ≡ true
-ends_done status asked done ends = subst (λ (s : Status). EndsFor (Err s) asked) done ends
 
 pub draws_start : (told later : Option Text) (held : Text) (room : ℕ) → later ≡ told → held ≡ [] → room ≡ 1073741824
     → IfSome told (λ bytes. Draws bytes 0 1073741824 later (length held) room)
@@ -145,7 +108,7 @@ draws_start (Some bytes) later held room same none fits =
 -- where the source is the one that the lines leave
 pub takes_by : {S : Type 0} (left : S → Option Text) (final source : S) (status : Status) (told : Option Text) (kept room : ℕ) → final ≡ source
     → IfSome told (λ bytes. Draws bytes 0 1073741824 (left source) kept room) → kept ≤ room + 1
-    → (status ≡ Done → IfSome told (λ bytes. LeavesNone bytes (left source)))
+    → (status ≡ Done → IfSome told (λ bytes. IsDone bytes (left source)))
     → IfSome told (λ bytes. TakesStream status bytes (left final))
 takes_by left final source status told kept room same draws within ends =
     subst (λ (s : _). IfSome told (λ bytes. TakesStream status bytes (left s))) (sym same) (takes_status status told (left source) kept room draws within ends)

@@ -7,9 +7,11 @@ use Rattle.zw_def.specs.Folder.{Listing}
 use Rattle.zw_def.specs.Told.{Appends, AppendsFront}
 use Rattle.zw_def_thin.specs.Refusal.{Start, Ending, usage, configuration, limit, done, bad_words, ending_of_refusal, line_of_refusal, ◌>>=◌}
 use Rattle.zw_def_thin.specs.Refusal as start
-use Rattle.zw_def_thin.specs.Output.{refused, text_of_groups}
-use Rattle.zw_def_thin.specs.Evaluation.{World}
-use Rattle.zw_top.specs.Session.{started, started_with}
+use Rattle.zw_def_thin.specs.Output.{refused, text_of_lines}
+use Rattle.zw_def_thin.specs.Session.{Session}
+use Rattle.zw_top.specs.Reply.{Serves}
+use Rattle.zw_top.specs.Session.{SessionStands, started, started_with}
+use Rattle.zw_top.specs.declared.session.Session as code
 use Rattle.zw_base.specs.declared.fault.Fault.{Fault}
 use Rattle.zw_base.specs.declared.fault.Fault.TheVariants.{Refused}
 use Rattle.zw_base.specs.declared.fault.Fault.TheVariants as fault
@@ -21,7 +23,7 @@ use Rattle.zw_top.specs.declared.status.Status.{Status}
 use Rattle.zw_top.specs.declared.status.Status.TheVariants.{Done, Usage, Config, ReadFault, WriteFault, FolderFault, Memory, Limit}
 use Rattle.zw_top.specs.declared.refusal.Stop.{Stop}
 use Rattle.zw_top.specs.declared.refusal.Stop.TheVariants as stop
-use Rattle.zw_top.proofs.GroupLemmas.{text_of_line, front_none}
+use Rattle.zw_top.proofs.OutputLemmas.{text_of_one, front_none}
 
 -- ---- statuses of endings
 
@@ -61,8 +63,8 @@ no_folder usage is = cc
 no_folder configuration is = cc
 no_folder limit is = cc
 
-whole_line : (r : start.Refusal) (first now : Option Text) → Appends first now (line_for r) → Appends first now (text_of_groups (refused r).groups)
-whole_line r first now appends = subst (λ (t : Text). Appends first now t) (sym (text_of_line (line_of_refusal r))) appends
+whole_line : (r : start.Refusal) (first now : Option Text) → Appends first now (line_for r) → Appends first now (text_of_lines (refused r).lines)
+whole_line r first now appends = subst (λ (t : Text). Appends first now t) (sym (text_of_one (line_of_refusal r))) appends
 
 pub refused_writes : (status : Status) (r : start.Refusal) (bytes : Text) (later first now : Option Text) → Refuses status r first now → Writes status (Err r) bytes later first now
 refused_writes Done r bytes later first now refuses = (whole_line r first now refuses.1, done_from _ refuses.0)
@@ -70,17 +72,17 @@ refused_writes Usage r bytes later first now refuses = (whole_line r first now r
 refused_writes Config r bytes later first now refuses = (whole_line r first now refuses.1, configuration_from _ refuses.0)
 refused_writes Limit r bytes later first now refuses = (whole_line r first now refuses.1, limit_from _ refuses.0)
 refused_writes WriteFault r bytes later first now refuses =
-    subst (λ (t : Text). AppendsFront first now t) (sym (text_of_line (line_of_refusal r))) refuses
+    subst (λ (t : Text). AppendsFront first now t) (sym (text_of_one (line_of_refusal r))) refuses
 refused_writes Memory r bytes later first now refuses = rw refuses (front_none first _)
 refused_writes ReadFault r bytes later first now refuses = absurd (no_read _ refuses.0)
 refused_writes FolderFault r bytes later first now refuses = absurd (no_folder _ refuses.0)
 
-lacks_writes : (from : Start World) (bytes : Text) (later first now : Option Text) → now ≡ first → Writes Memory from bytes later first now
+lacks_writes : (from : Start Session) (bytes : Text) (later first now : Option Text) → now ≡ first → Writes Memory from bytes later first now
 lacks_writes from bytes later first now same = rw same (front_none first _)
 
-fault_at : (status : Status) (f : Fault Stop) (from : Start World) (bytes : Text) (later first now : Option Text) → Stops f from → RefusesFor status f first now → Writes status from bytes later first now
+fault_at : (status : Status) (f : Fault Stop) (from : Start Session) (bytes : Text) (later first now : Option Text) → Stops f from → RefusesFor status f first now → Writes status from bytes later first now
 fault_at status (Refused (stop.Refusal r)) from bytes later first now stops refuses =
-    subst (λ (s : Start World). Writes status s bytes later first now) (sym stops) (refused_writes status (refusal_seen r) bytes later first now refuses)
+    subst (λ (s : Start Session). Writes status s bytes later first now) (sym stops) (refused_writes status (refusal_seen r) bytes later first now refuses)
 fault_at status (Refused stop.FolderFault) from bytes later first now stops refuses = rw refuses.0 refuses.1
 fault_at status fault.Memory from bytes later first now stops refuses = rw refuses.0 (lacks_writes from bytes later first now refuses.1)
 
@@ -90,6 +92,28 @@ fault_writes status f settings None left later first now gives refuses = tt
 fault_writes status f settings (Some l) None later first now gives refuses = tt
 fault_writes status f settings (Some l) (Some bytes) later first now gives refuses = fault_at status f (started_with settings l) bytes later first now gives refuses
 
+-- ---- a session that starts
+
+serves_as : (status : Status) (s : Session) (bytes : Text) (later first now : Option Text) → Serves status s bytes later first now → Writes status (Ok s) bytes later first now
+serves_as Done s bytes later first now serves = serves
+serves_as Limit s bytes later first now serves = serves
+serves_as ReadFault s bytes later first now serves = (s, refl, serves)
+serves_as WriteFault s bytes later first now serves = serves
+serves_as Memory s bytes later first now serves = serves
+serves_as Usage s bytes later first now serves = absurd serves
+serves_as Config s bytes later first now serves = absurd serves
+serves_as FolderFault s bytes later first now serves = absurd serves
+
+serves_by : (status : Status) (held : code.Session) (from : Start Session) (left later first now : Option Text) → GivesSession (Ok held) from → ((s : Session) → SessionStands s held → IfSome left (λ bytes. Serves status s bytes later first now)) → IfSome left (λ bytes. Writes status from bytes later first now)
+serves_by status held from None later first now gives serves = tt
+serves_by status held from (Some bytes) later first now gives serves =
+    subst (λ (x : Start Session). Writes status x bytes later first now) (sym gives.1) (serves_as status gives.0 bytes later first now (serves gives.0 gives.2))
+
+pub session_writes : (status : Status) (held : code.Session) (settings : Settings) (told : Option Listing) (left later first now : Option Text) → IfSome told (λ l. GivesSession (Ok held) (started_with settings l)) → ((s : Session) → SessionStands s held → IfSome left (λ bytes. Serves status s bytes later first now))
+    → IfSome told (λ l. IfSome left (λ bytes. Writes status (started_with settings l) bytes later first now))
+session_writes status held settings None left later first now gives serves = tt
+session_writes status held settings (Some l) left later first now gives serves = serves_by status held (started_with settings l) left later first now gives serves
+
 -- ---- what is taken of the stream
 
 no_end : (r : start.Refusal) → Done ≡ status_of_ending (ending_of_refusal r) → ⊥
@@ -97,11 +121,11 @@ no_end start.bad_words is = cc
 no_end start.no_configuration is = cc
 no_end (start.bad_configuration fault) is = cc
 no_end start.other_configuration is = cc
-no_end (start.other_file path) is = cc
 no_end start.long_listing is = cc
 no_end start.many_files is = cc
 no_end (start.large_file path) is = cc
 no_end start.large_tree is = cc
+no_end (start.bad_namespace text) is = cc
 
 nothing_taken : (bytes : Text) (later : Option Text) → later ≡ Some bytes → TakesFront bytes later
 nothing_taken bytes later same = record { taken = []; rest = bytes; split = refl; few = omega arith; told = same }
@@ -156,7 +180,7 @@ pub run_writes : {K S : Type 0} (taken : K → Option Text) (stays : S → Optio
 run_writes taken stays old begun now final source last status words settings None left same ends leaves is writes = tt
 run_writes taken stays old begun now final source last status words settings (Some l) None same ends leaves is writes = tt
 run_writes taken stays old begun now final source last status words settings (Some l) (Some bytes) same ends leaves is writes =
-    subst (λ (from : Start World). Writes status from bytes (stays last) (taken old) (taken final)) (sym (started_by words settings l is))
+    subst (λ (from : Start Session). Writes status from bytes (stays last) (taken old) (taken final)) (sym (started_by words settings l is))
     (subst (λ (s : _). Writes status (started_with settings l) bytes (stays s) (taken old) (taken final)) (sym leaves)
     (subst (λ (k : _). Writes status (started_with settings l) bytes (stays source) (taken old) (taken k)) (sym ends)
     (subst (λ (k : _). Writes status (started_with settings l) bytes (stays source) (taken k) (taken now)) same writes)))

@@ -1,12 +1,12 @@
 -- What the code's refusals stand for, and what a step of the start answers.
-use Rattle.std.specs.Prelude.{◌≡◌, ℕ, Result, Ok, Err}
+use Rattle.std.specs.Prelude.{◌≡◌, ℕ, Result, Ok, Err, string_bytes}
 use Rattle.zw_def.specs.Told.{Rose}
 use Rattle.zw_def_thin.specs.Refusal as defined
 use Rattle.zw_base.specs.declared.fault.Fault.{Fault}
 use Rattle.zw_base.specs.declared.fault.Fault.TheVariants.{Refused, Memory}
 use Rattle.zw_config.specs.Fault.{fault_seen}
 use Rattle.zw_top.specs.declared.refusal.Refusal as code
-use Rattle.zw_top.specs.declared.refusal.Refusal.TheVariants.{NoConfiguration, BadConfiguration, OtherConfiguration, OtherFile, LongListing, ManyFiles, LargeFile, LargeTree}
+use Rattle.zw_top.specs.declared.refusal.Refusal.TheVariants.{NoConfiguration, BadConfiguration, OtherConfiguration, LongListing, ManyFiles, LargeFile, LargeTree, BadNamespace}
 use Rattle.zw_top.specs.declared.refusal.Stop.{Stop}
 use Rattle.zw_top.specs.declared.refusal.Stop.TheVariants.{Refusal, FolderFault}
 
@@ -14,11 +14,11 @@ abbrev pub refusal_seen : code.Refusal → defined.Refusal
 refusal_seen NoConfiguration = defined.no_configuration
 refusal_seen (BadConfiguration fault) = defined.bad_configuration (fault_seen fault)
 refusal_seen OtherConfiguration = defined.other_configuration
-refusal_seen (OtherFile path) = defined.other_file path
 refusal_seen LongListing = defined.long_listing
 refusal_seen ManyFiles = defined.many_files
 refusal_seen (LargeFile path) = defined.large_file path
 refusal_seen LargeTree = defined.large_tree
+refusal_seen (BadNamespace text) = defined.bad_namespace (string_bytes text)
 
 -- the step is refused as defined; a failed call and want of memory say nothing
 abbrev pub Stops : {Y : Type 0} → Fault Stop → defined.Start Y → Type 0

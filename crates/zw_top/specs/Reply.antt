@@ -1,63 +1,43 @@
--- What the answers to lines write, and how a stream ends.
-use Rattle.std.specs.Prelude.{◌≡◌, ◌≢◌, ℕ, List, [], ◌∷◌, ◌++◌, true, false, Option, Some, Result, Ok, Err, codes, string_bytes}
+-- What the answers to requests write, and how a stream ends.
+use Rattle.std.specs.Prelude.{◌≡◌, ◌≢◌, ℕ, List, ◌++◌, map, Option, Some, None, Result, Ok, Err, String, codes, string_bytes}
+use Rattle.std.specs.Global.{Vec, Global}
 use Rattle.zw_def.specs.Text.{Text}
-use Rattle.zw_def.specs.Line.{whole_lines}
-use Rattle.zw_def_thin.specs.Evaluation.{World}
-use Rattle.zw_def_thin.specs.Refusal as start
-use Rattle.zw_def_thin.specs.Command.{Command, Reason}
-use Rattle.zw_def_thin.specs.Command as command
-use Rattle.zw_def_thin.specs.Output.{Group, Output, Answer, passed, ended, answered, is_end, text_of_groups, groups_of, served}
-use Rattle.zw_def_thin.specs.Session.{answer_to, answer_to_run}
-use Rattle.zw_thin.specs.Held.{Held}
-use Rattle.zw_thin.specs.World.{StandsFor}
 use Rattle.zw_def.specs.Told.{Rose, Appends, AppendsFront}
+use Rattle.zw_def_session.specs.Commands.{stream_of}
+use Rattle.zw_def_thin.specs.Refusal as start
+use Rattle.zw_def_thin.specs.Output.{Output, text_of_lines}
+use Rattle.zw_def_thin.specs.Session.{Session, Answer}
+use Rattle.zw_cmd.specs.Streams.{front_of_stream}
 use Rattle.zw_io.specs.declared.lines.LinesFault.{LinesFault}
 use Rattle.zw_io.specs.declared.lines.LinesFault.TheVariants as lines
-use Rattle.zw_top.specs.declared.stream.Answer as answer
-use Rattle.zw_top.specs.declared.stream.Answer.TheVariants as answers
+use Rattle.zw_top.specs.Script.{Request, script_of}
+use Rattle.zw_top.specs.Session.{SessionStands, answer_to, lines_of, output_in}
+use Rattle.zw_top.specs.declared.session.Session as code
 use Rattle.zw_top.specs.declared.status.Status.{Status}
 use Rattle.zw_top.specs.declared.status.Status.TheVariants.{Done, Usage, Config, ReadFault, WriteFault, FolderFault, Memory, Limit}
 
--- ---- one line
+-- ---- one request
 
--- the group of an answer alone, and the world that it leaves
-abbrev pub groups_alone : Answer World → List Group
-groups_alone passed = []
-groups_alone ended = []
-groups_alone (answered line next) = (line ∷ []) ∷ []
+-- the code's lines
+abbrev pub lines_seen : Vec (String Global) → List Text
+lines_seen lines = map string_bytes lines.items
 
-abbrev pub next_of : World → Answer World → World
-next_of world passed = world
-next_of world ended = world
-next_of world (answered line next) = next
+-- the lines are those of the answer, and the session stands for the one that it leaves
+pub record Gives (lines : List Text) (held : code.Session) (answer : Answer) : Type 0 where
+  pub told : lines ≡ answer.lines
+  pub stands : SessionStands answer.session held
 
--- the code's answer is the one that is defined, and what is held stands for the world that it leaves
-abbrev pub AnswersTo : World → Held → answer.Answer → Answer World → Type 0
-AnswersTo world held answers.Passed defined = (defined ≡ passed) × StandsFor world held
-AnswersTo world held answers.Ended defined = defined ≡ ended
-AnswersTo world held (answers.Answered line) defined =
-    (next : World) × (defined ≡ answered (string_bytes line) next) × StandsFor next held
+-- in each session that the code's stands for
+abbrev pub AnswersTo : code.Session → code.Session → (Session → Answer) → List Text → Type 0
+AnswersTo old new answer lines = (s : Session) → SessionStands s old → Gives lines new (answer s)
 
--- in each world that the session stands for, the answer is the one that is defined: to `run`, to a refused line, and to
--- any command
-abbrev pub AnswersRun : Held → Held → Text → answer.Answer → Type 0
-AnswersRun old new text answer =
-    (world : World) → StandsFor world old → AnswersTo world new answer (answer_to_run world text)
+-- the end of the commands has no answer
+abbrev pub AnswersRequest : code.Session → code.Session → Option Request → Option (Vec (String Global)) → Type 0
+AnswersRequest old new None lines = lines ≡ None
+AnswersRequest old new (Some r) None = ⊥
+AnswersRequest old new (Some r) (Some lines) = AnswersTo old new (answer_to r) (lines_seen lines)
 
-abbrev pub AnswersReason : Reason → answer.Answer → Type 0
-AnswersReason reason answer =
-    (world : World) (held : Held) → StandsFor world held →
-    AnswersTo world held answer (answer_to world (command.refused reason))
-
-abbrev pub AnswersCommand : Held → Held → Command → answer.Answer → Type 0
-AnswersCommand old new asked answer =
-    (world : World) → StandsFor world old → AnswersTo world new answer (answer_to world asked)
-
--- whatever the world, the answer is the end exactly where the command is
-abbrev pub AnswersAs : Command → answer.Answer → Type 0
-AnswersAs asked answers.Passed = is_end asked ≡ false
-AnswersAs asked answers.Ended = is_end asked ≡ true
-AnswersAs asked (answers.Answered line) = is_end asked ≡ false
+-- ---- what is written
 
 -- the line is written, or a front of it, or nothing for want of memory
 abbrev pub PutsLine : Result (Unit {0}) Status → Text → Option Text → Option Text → Type 0
@@ -66,26 +46,37 @@ PutsLine (Err WriteFault) line first now = AppendsFront first now (line ++ codes
 PutsLine (Err Memory) line first now = now ≡ first
 PutsLine (Err other) line first now = ⊥
 
+-- the lines are written, or a front of them
+abbrev pub PutsLines : Result (Unit {0}) Status → List Text → Option Text → Option Text → Type 0
+PutsLines (Ok u) lines first now = Appends first now (text_of_lines lines)
+PutsLines (Err WriteFault) lines first now = AppendsFront first now (text_of_lines lines)
+PutsLines (Err Memory) lines first now = AppendsFront first now (text_of_lines lines)
+PutsLines (Err other) lines first now = ⊥
+
 abbrev pub CountsPut : Result (Unit {0}) Status → ℕ → ℕ → Type 0
 CountsPut (Ok u) before after = after ≡ before
 CountsPut (Err WriteFault) before after = Rose before after
 CountsPut (Err Memory) before after = after ≡ before
 CountsPut (Err other) before after = ⊥
 
--- the answer is written; where it is the end, the session is done
-abbrev pub Replies : Result (Unit {0}) Status → World → Held → Answer World → Option Text → Option Text → Type 0
-Replies (Ok u) world held answer first now =
-    (answer ≢ ended) × StandsFor (next_of world answer) held × Appends first now (text_of_groups (groups_alone answer))
-Replies (Err Done) world held answer first now = (answer ≡ ended) × (now ≡ first)
-Replies (Err WriteFault) world held answer first now =
-    (answer ≢ ended) × AppendsFront first now (text_of_groups (groups_alone answer))
-Replies (Err Memory) world held answer first now = now ≡ first
-Replies (Err other) world held answer first now = ⊥
+-- the answer is written, or a front of it
+abbrev pub Replies : Result (Unit {0}) Status → Answer → code.Session → Option Text → Option Text → Type 0
+Replies (Ok u) answer held first now = SessionStands answer.session held × Appends first now (text_of_lines answer.lines)
+Replies (Err WriteFault) answer held first now = AppendsFront first now (text_of_lines answer.lines)
+Replies (Err Memory) answer held first now = AppendsFront first now (text_of_lines answer.lines)
+Replies (Err other) answer held first now = ⊥
 
--- the same to a command, in each world that the session stands for
-abbrev pub RepliesTo : Result (Unit {0}) Status → Held → Held → Command → Option Text → Option Text → Type 0
-RepliesTo result old new asked first now =
-    (world : World) → StandsFor world old → Replies result world new (answer_to world asked) first now
+-- the session is done, or there was no memory
+abbrev pub IsOver : Result (Unit {0}) Status → Type 0
+IsOver (Err Done) = Unit {0}
+IsOver (Err Memory) = Unit {0}
+IsOver other = ⊥
+
+-- in each session that the code's stands for; at the end of the commands nothing is written
+abbrev pub RepliesTo : Result (Unit {0}) Status → code.Session → code.Session → Option Request → Option Text → Option Text → Type 0
+RepliesTo result old new None first now = IsOver result × (now ≡ first)
+RepliesTo result old new (Some r) first now =
+    (s : Session) → SessionStands s old → Replies result (answer_to r s) new first now
 
 abbrev pub CountsReply : Result (Unit {0}) Status → ℕ → ℕ → Type 0
 CountsReply (Ok u) before after = after ≡ before
@@ -94,10 +85,11 @@ CountsReply (Err Memory) before after = after ≡ before
 CountsReply (Err Done) before after = after ≡ before
 CountsReply (Err other) before after = ⊥
 
--- a command that is no `end` lets the session go on, and only `end` ends it by itself
-abbrev pub EndsFor : Result (Unit {0}) Status → Command → Type 0
-EndsFor (Ok u) asked = is_end asked ≡ false
-EndsFor (Err Done) asked = is_end asked ≡ true
+-- the session is done at the end of the commands and nowhere else
+abbrev pub EndsFor : Result (Unit {0}) Status → Option Request → Type 0
+EndsFor (Ok u) (Some r) = Unit {0}
+EndsFor (Ok u) None = ⊥
+EndsFor (Err Done) (Some r) = ⊥
 EndsFor (Err other) asked = Unit {0}
 
 -- ---- the end of a stream
@@ -118,29 +110,29 @@ CountsCut other before after = after ≡ before
 
 -- all that is written, and how it ends
 abbrev pub WritesAll : Output → start.Ending → Option Text → Option Text → Type 0
-WritesAll output ending first now = Appends first now (text_of_groups output.groups) × (output.ending ≡ ending)
+WritesAll output ending first now = Appends first now (text_of_lines output.lines) × (output.ending ≡ ending)
 
 -- a front of what is to be written
 abbrev pub WritesFront : Output → Option Text → Option Text → Type 0
-WritesFront output first now = AppendsFront first now (text_of_groups output.groups)
+WritesFront output first now = AppendsFront first now (text_of_lines output.lines)
 
--- a read failed after some bytes were taken: what is written are the groups of the lines that stand whole in these
-pub record StopsAfter (world : World) (bytes : Text) (later first now : Option Text) : Type 0 where
+-- a read failed after some bytes were taken: what is written are the lines of the requests that stand whole in these
+pub record StopsAfter (s : Session) (bytes : Text) (later first now : Option Text) : Type 0 where
   pub taken : Text
   pub rest : Text
   pub split : bytes ≡ taken ++ rest
   pub left : later ≡ Some rest
-  pub written : Appends first now (text_of_groups (groups_of answer_to world (whole_lines taken)))
+  pub written : Appends first now (text_of_lines (lines_of s (script_of (front_of_stream taken)).requests))
 
-abbrev pub Serves : Status → World → Text → Option Text → Option Text → Option Text → Type 0
-Serves Done world bytes later first now = WritesAll (served answer_to 1073741824 world bytes) start.done first now
-Serves Limit world bytes later first now = WritesAll (served answer_to 1073741824 world bytes) start.limit first now
-Serves ReadFault world bytes later first now = StopsAfter world bytes later first now
-Serves WriteFault world bytes later first now = WritesFront (served answer_to 1073741824 world bytes) first now
-Serves Memory world bytes later first now = WritesFront (served answer_to 1073741824 world bytes) first now
-Serves Usage world bytes later first now = ⊥
-Serves Config world bytes later first now = ⊥
-Serves FolderFault world bytes later first now = ⊥
+abbrev pub Serves : Status → Session → Text → Option Text → Option Text → Option Text → Type 0
+Serves Done s bytes later first now = WritesAll (output_in s (script_of (stream_of bytes))) start.done first now
+Serves Limit s bytes later first now = WritesAll (output_in s (script_of (stream_of bytes))) start.limit first now
+Serves ReadFault s bytes later first now = StopsAfter s bytes later first now
+Serves WriteFault s bytes later first now = WritesFront (output_in s (script_of (stream_of bytes))) first now
+Serves Memory s bytes later first now = WritesFront (output_in s (script_of (stream_of bytes))) first now
+Serves Usage s bytes later first now = ⊥
+Serves Config s bytes later first now = ⊥
+Serves FolderFault s bytes later first now = ⊥
 
 -- the counts of the source and of the sink; a stream ends with none of the other statuses
 abbrev pub CountsServed : Status → ℕ → ℕ → ℕ → ℕ → Type 0

@@ -3,9 +3,8 @@ use Rattle.std.specs.Prelude.{◌≡◌, ◌≢◌, ℕ, Option, Ok, Err, ◌++�
 use Rattle.zw_def.specs.Text.{Text}
 use Rattle.zw_def.specs.Told.{Rose, Appends, AppendsFront}
 use Rattle.zw_def_thin.specs.Refusal.{Ending, Refusal, Start, usage, configuration, limit, done, line_of_refusal, ending_of_refusal}
-use Rattle.zw_def_thin.specs.Evaluation.{World}
-use Rattle.zw_def_thin.specs.Output.{output_from}
-use Rattle.zw_def_thin.specs.Session.{answer_to}
+use Rattle.zw_def_thin.specs.Session.{Session}
+use Rattle.zw_top.specs.Session.{output_from}
 use Rattle.zw_top.specs.Reply.{WritesAll, WritesFront, StopsAfter}
 use Rattle.zw_base.specs.declared.fault.Fault.{Fault}
 use Rattle.zw_base.specs.declared.fault.Fault.TheVariants.{Refused}
@@ -60,16 +59,16 @@ KeepsToStart status (Ok x) first now = (status ≢ Usage) × (status ≢ Config)
 -- ---- the whole
 
 -- what is written, by the status, where the session starts so
-abbrev pub Writes : Status → Start World → Text → Option Text → Option Text → Option Text → Type 0
-Writes Done start bytes later first now = WritesAll (output_from answer_to start bytes) done first now
-Writes Usage start bytes later first now = WritesAll (output_from answer_to start bytes) usage first now
-Writes Config start bytes later first now = WritesAll (output_from answer_to start bytes) configuration first now
-Writes Limit start bytes later first now = WritesAll (output_from answer_to start bytes) limit first now
+abbrev pub Writes : Status → Start Session → Text → Option Text → Option Text → Option Text → Type 0
+Writes Done start bytes later first now = WritesAll (output_from start bytes) done first now
+Writes Usage start bytes later first now = WritesAll (output_from start bytes) usage first now
+Writes Config start bytes later first now = WritesAll (output_from start bytes) configuration first now
+Writes Limit start bytes later first now = WritesAll (output_from start bytes) limit first now
 Writes ReadFault start bytes later first now =
-    (world : World) × (start ≡ Ok world) × StopsAfter world bytes later first now
+    (s : Session) × (start ≡ Ok s) × StopsAfter s bytes later first now
 Writes FolderFault start bytes later first now = now ≡ first
-Writes WriteFault start bytes later first now = WritesFront (output_from answer_to start bytes) first now
-Writes Memory start bytes later first now = WritesFront (output_from answer_to start bytes) first now
+Writes WriteFault start bytes later first now = WritesFront (output_from start bytes) first now
+Writes Memory start bytes later first now = WritesFront (output_from start bytes) first now
 
 -- the counts of the folder, the source and the sink, before and after, by the status
 abbrev pub Causes : Status → ℕ → ℕ → ℕ → ℕ → ℕ → ℕ → Type 0

@@ -1,7 +1,8 @@
 -- How much of the stream is taken.
-use Rattle.std.specs.Prelude.{◌≡◌, ◌≤◌, ◌++◌, [], false, Option, Some, length}
+use Rattle.std.specs.Prelude.{◌≡◌, ◌⊎◌, ◌≤◌, ◌++◌, [], false, Option, Some, length}
 use Rattle.zw_def.specs.Text.{Text}
-use Rattle.zw_def_thin.specs.Output.{has_end, lines_within}
+use Rattle.zw_cmd.specs.Streams.{front_of_stream}
+use Rattle.zw_top.specs.Script.{script_of}
 use Rattle.zw_top.specs.declared.status.Status.{Status}
 use Rattle.zw_top.specs.declared.status.Status.TheVariants.{Done, Usage, Config, FolderFault}
 
@@ -13,13 +14,20 @@ pub record TakesFront (bytes : Text) (later : Option Text) : Type 0 where
   pub few : length taken ≤ 1073741825
   pub told : later ≡ Some rest
 
--- without the command `end` nothing is left
-abbrev pub LeavesNone : Text → Option Text → Type 0
-LeavesNone bytes later = has_end (lines_within 1073741824 bytes) ≡ false → later ≡ Some []
+-- a front of the stream ends the session by itself, whatever follows, as the command `end` does
+pub record EndsItself (bytes : Text) : Type 0 where
+  pub front : Text
+  pub rest : Text
+  pub split : bytes ≡ front ++ rest
+  pub ends : (more : Text) → (script_of (front_of_stream (front ++ more))).is_over ≡ false
+
+-- a session is done where nothing is left, or by itself
+abbrev pub IsDone : Text → Option Text → Type 0
+IsDone bytes later = (later ≡ Some []) ⊎ EndsItself bytes
 
 -- by the status that a stream ends with
 abbrev pub TakesStream : Status → Text → Option Text → Type 0
-TakesStream Done bytes later = TakesFront bytes later × LeavesNone bytes later
+TakesStream Done bytes later = TakesFront bytes later × IsDone bytes later
 TakesStream other bytes later = TakesFront bytes later
 
 -- by the status of a run: one that ends before its first command takes nothing, or has no such status

@@ -1,16 +1,17 @@
-//! The configuration: its file, and the root that it names.
-ghost use Rattle.std.specs.Prelude.{◌≡◌, ℕ, List, Option, Err, IfOk, IfErr, IfSome, map};
+//! The configuration: its file, and what is carried out of it.
+ghost use Rattle.std.specs.Prelude.{◌≡◌, ℕ, List, Option, None, Err, IfOk, IfErr, IfSome, if◌then◌else◌, map};
 ghost use Rattle.toml.specs.View.{items_view, table_view, view};
 ghost use Rattle.zw_def.specs.Text.{Text};
 ghost use Rattle.zw_def.specs.Path as paths;
 ghost use Rattle.zw_def.specs.Path.{path_of};
-ghost use Rattle.zw_inflect.specs.Layout.{root_seen};
-ghost use Rattle.zw_config.specs.Config.{config_seen};
+ghost use Rattle.zw_inflect.specs.Layout.{layout_seen, root_seen};
+ghost use Rattle.zw_config.specs.Config.{IsNamed, config_seen};
 ghost use Rattle.zw_def_thin.specs.Mount.{configuration_by, configuration_text};
 ghost use Rattle.zw_def_thin.specs.Root as defined;
-ghost use Rattle.zw_def_thin.specs.Session.{root_at};
+ghost use Rattle.zw_def_thin.specs.Session.{plan_at};
 ghost use Rattle.zw_io.specs.FolderAnswers.{CountsFail};
 ghost use Rattle.zw_top.specs.Refusal.{Gives, KeepsFolder, CountsStart};
+ghost use Rattle.zw_top.specs.Start.{IsPlanNamed, plan_seen};
 ghost use Rattle.zw_top.specs.Reading.{IsOuter, IsFront, ReadsFile, file_seen};
 
 use crate::limits;
@@ -19,7 +20,7 @@ use std::alloc::{AllocError, Global};
 use toml::{Table, Value};
 use zw_base::Fault;
 use zw_config::{Config, ReadFault, has_only, read_table, table_of, value_at};
-use zw_inflect::Root;
+use zw_inflect::{Layout, Root};
 use zw_io::{Fail, Folder};
 use zw_names::Names;
 use zw_path::{Path, PathFault};
@@ -124,11 +125,24 @@ fn is_one_root(values: &[Value]) -> bool
     }
 }
 
-fn are_roots_built(value: &Value) -> bool
-    ensures { result ≡ defined.are_roots_built (view value.now) }
+fn has_plain_root(value: &Value) -> bool
+    ensures { result ≡ defined.has_plain_root (view value.now) }
 {
     match value.as_array() {
         Some(values) => is_one_root(values.as_slice()),
+        None => false,
+    }
+}
+
+// Whether the configuration is one of the first path: one root with its path alone, and no other keys but `reloading`.
+fn is_first_path(table: &Table) -> bool
+    ensures { result ≡ defined.is_first_path (table_view table.now) }
+{
+    if !has_only(table, &["root", "reloading"]) {
+        return false;
+    }
+    match value_at(table, "root") {
+        Some(value) => has_plain_root(value),
         None => false,
     }
 }
@@ -137,13 +151,18 @@ fn are_roots_built(value: &Value) -> bool
 fn is_built(table: &Table) -> bool
     ensures { result ≡ defined.is_built (table_view table.now) }
 {
-    if !has_only(table, &["root", "reloading"]) {
-        return false;
-    }
-    match value_at(table, "root") {
-        Some(value) => are_roots_built(value),
-        None => true,
-    }
+    has_only(
+        table,
+        &[
+            "root",
+            "reloading",
+            "ignore",
+            "collapse",
+            "no_eager",
+            "inflect",
+            "gem",
+        ],
+    )
 }
 
 fn first_path(alloc: Global, roots: &[Root]) -> Result<Option<Path>, AllocError>
@@ -155,52 +174,89 @@ fn first_path(alloc: Global, roots: &[Root]) -> Result<Option<Path>, AllocError>
     }
 }
 
-// The root of an accepted configuration, if it has one, where all that it has is built so far.
-fn built_root(alloc: Global, table: &Table, config: &Config) -> Result<Option<Path>, StartFault>
-    ensures gives { (path : paths.Path) (names : List Text) → Gives (λ root. root) result
-        (defined.built_root (table_view table.now) (config_seen path names config.now)) }
-    ensures kept { KeepsFolder result }
+// The root, where the configuration is one of the first path.
+fn plain_root(alloc: Global, table: &Table, layout: &Layout) -> Result<Option<Path>, AllocError>
+    ensures { (names : List Text) → IfOk result (λ root. root ≡ (if defined.is_first_path (table_view table.now) then
+        defined.first_path (layout_seen names layout.now).roots else None)) }
 {
-    if is_built(table) {
-        Ok(first_path(alloc, &config.layout.roots)?)
+    if is_first_path(table) {
+        first_path(alloc, &layout.roots)
     } else {
-        Err(refused(Refusal::OtherConfiguration))
+        Ok(None)
     }
 }
 
-fn root_in(alloc: Global, table: &Table) -> Result<Option<Path>, StartFault>
-    ensures gives { (path : paths.Path) → Gives (λ root. root) result (defined.root_in path (table_view table.now)) }
+/// What is carried out of a configuration.
+#[derive(Drop)]
+pub(crate) struct Plan {
+    /// The names of the layout.
+    pub(crate) names: Names,
+    pub(crate) layout: Layout,
+    /// The root, where the configuration is one of the first path.
+    pub(crate) root: Option<Path>,
+}
+
+// The plan of an accepted configuration, where all that it has is built so far.
+fn built_plan(
+    alloc: Global,
+    table: &Table,
+    names: Names,
+    config: Config,
+) -> Result<Plan, StartFault>
+    requires { IsNamed names config }
+    ensures gives { (path : paths.Path) → Gives plan_seen result
+        (defined.built_plan (table_view table.now) (config_seen path names config)) }
+    ensures named { IfOk result IsPlanNamed }
+    ensures kept { KeepsFolder result }
+{
+    if !is_built(table) {
+        return Err(refused(Refusal::OtherConfiguration));
+    }
+    let Config { layout, .. } = config;
+    let root = plain_root(alloc, table, &layout)?;
+    Ok(Plan {
+        names,
+        layout,
+        root,
+    })
+}
+
+fn plan_in(alloc: Global, table: &Table) -> Result<Plan, StartFault>
+    ensures gives { (path : paths.Path) → Gives plan_seen result (defined.plan_in path (table_view table.now)) }
+    ensures named { IfOk result IsPlanNamed }
     ensures kept { KeepsFolder result }
 {
     let mut names = Names::new(alloc)?;
     match read_table(alloc, table, &mut names) {
-        Ok(config) => built_root(alloc, table, &config),
+        Ok(config) => built_plan(alloc, table, names, config),
         Err(ReadFault::Refused(fault)) => Err(refused(Refusal::BadConfiguration(fault))),
         Err(ReadFault::Memory) => Err(Fault::Memory),
     }
 }
 
-fn root_of(alloc: Global, bytes: &[u8]) -> Result<Option<Path>, StartFault>
-    ensures gives { (path : paths.Path) → Gives (λ root. root) result (defined.root_of path bytes.now) }
+fn plan_from(alloc: Global, bytes: &[u8]) -> Result<Plan, StartFault>
+    ensures gives { (path : paths.Path) → Gives plan_seen result (defined.plan_from path bytes.now) }
+    ensures named { IfOk result IsPlanNamed }
     ensures kept { KeepsFolder result }
 {
     match table_of(alloc, bytes) {
-        Ok(table) => root_in(alloc, &table),
+        Ok(table) => plan_in(alloc, &table),
         Err(ReadFault::Refused(fault)) => Err(refused(Refusal::BadConfiguration(fault))),
         Err(ReadFault::Memory) => Err(Fault::Memory),
     }
 }
 
-/// The root that the configuration names, if it names one.
-pub(crate) fn root_at<F: Folder>(
+/// What is carried out of the configuration at the path.
+pub(crate) fn plan_at<F: Folder>(
     alloc: Global,
     folder: &mut F,
     path: &Path,
-) -> Result<Option<Path>, StartFault>
-    ensures told { IfSome (F.listing folder.old) (λ l. Gives (λ root. root) result (root_at path.now l)) }
+) -> Result<Plan, StartFault>
+    ensures told { IfSome (F.listing folder.old) (λ l. Gives plan_seen result (plan_at path.now l)) }
+    ensures named { IfOk result IsPlanNamed }
     ensures same { F.listing folder.new ≡ F.listing folder.old }
     ensures cause { CountsStart result (F.faults folder.old) (F.faults folder.new) }
 {
     let text = configuration_in(alloc, folder, path)?;
-    root_of(alloc, &text)
+    plan_from(alloc, &text)
 }

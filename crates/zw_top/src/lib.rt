@@ -4,13 +4,13 @@
 //! than may be read, and one byte; and that each fault is told only where a call of that object failed.
 #![tactic(auto)]
 
-mod command;
 mod configuration;
 mod limits;
 mod line;
 mod listing;
 mod mount;
 mod refusal;
+mod session;
 mod start;
 mod status;
 mod stream;

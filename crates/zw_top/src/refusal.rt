@@ -18,8 +18,6 @@ pub(crate) enum Refusal {
     BadConfiguration(ConfigFault),
     /// The configuration has what is not built so far.
     OtherConfiguration,
-    /// The file is none that is carried out so far.
-    OtherFile(Path),
     /// More paths are listed than may be.
     LongListing,
     /// The tree has more files than it may have.
@@ -28,6 +26,8 @@ pub(crate) enum Refusal {
     LargeFile(Path),
     /// The tree has more bytes than it may have.
     LargeTree,
+    /// A root's namespace, of this text, leads to no module of that very name.
+    BadNamespace(String),
 }
 
 /// Why a step of the start gives nothing, want of memory aside.
@@ -57,11 +57,11 @@ pub(crate) fn line_of(alloc: Global, refusal: &Refusal) -> Result<String, AllocE
         Refusal::NoConfiguration => String::from_str(alloc, "config: missing"),
         Refusal::BadConfiguration(fault) => with_text(alloc, "config: ", &fault.text(alloc)?),
         Refusal::OtherConfiguration => String::from_str(alloc, "config: not built"),
-        Refusal::OtherFile(path) => with_path(alloc, "not built: ", path),
         Refusal::LongListing => String::from_str(alloc, "limit: listing"),
         Refusal::ManyFiles => String::from_str(alloc, "limit: files"),
         Refusal::LargeFile(path) => with_path(alloc, "limit: file ", path),
         Refusal::LargeTree => String::from_str(alloc, "limit: tree"),
+        Refusal::BadNamespace(text) => with_text(alloc, "config: namespace ", text),
     }
 }
 

@@ -27,11 +27,11 @@ fn status_of(refusal: &Refusal) -> Status
         Refusal::NoConfiguration => Status::Config,
         Refusal::BadConfiguration(_) => Status::Config,
         Refusal::OtherConfiguration => Status::Config,
-        Refusal::OtherFile(_) => Status::Config,
         Refusal::LongListing => Status::Limit,
         Refusal::ManyFiles => Status::Limit,
         Refusal::LargeFile(_) => Status::Limit,
         Refusal::LargeTree => Status::Limit,
+        Refusal::BadNamespace(_) => Status::Config,
     }
 }
 
@@ -127,7 +127,7 @@ pub fn run<F: Folder, S: Source, K: Sink>(
         Writes result (started (map string_bytes words.now) l) bytes (S.left source.new)
         (K.taken sink.old) (K.taken sink.new))) }
     // The stream is what was taken, at most one byte past the limit, and what is left: all of it where no command was
-    // asked for, and nothing where the session is done without the command `end`.
+    // asked for. Where the session is done, nothing is left, or a front of the stream ends it whatever follows.
     ensures takes { IfSome (S.left source.old) (λ bytes. Takes result bytes (S.left source.new)) }
     // A fault is told only where that object's count rose, and then no other's; else no count rose.
     ensures causes { Causes result (F.faults folder.old) (F.faults folder.new)

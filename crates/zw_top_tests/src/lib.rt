@@ -4,6 +4,8 @@
 #[cfg(test)]
 mod large;
 #[cfg(test)]
+mod layout;
+#[cfg(test)]
 mod session;
 #[cfg(test)]
 mod thin;

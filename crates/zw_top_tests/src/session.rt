@@ -196,7 +196,7 @@ fn answers(rt: HostRuntime) -> Result<(), Fail> {
         (
             "run User.size\nrun 7\nrun User\nrun User.age\nrun Car\nmap\n",
             "= 40\n= 7\n= User\n! NoMethodError: undefined method 'age' for class User\n\
-             ! NameError: uninitialized constant Car\n? not built\n",
+             ! NameError: uninitialized constant Car\n- User file m/user.rb\n",
         ),
         ("run 1\nend\nrun 2\n", "= 1\n"),
         ("end \nrun 2\n", ""),
@@ -211,9 +211,21 @@ fn answers(rt: HostRuntime) -> Result<(), Fail> {
             "run  User.size\nrun User.size \n",
             "? not built\n? not built\n",
         ),
+        // The lines of `put` and `runs` are taken, whatever they hold.
         (
-            "put m/a.rb 1\nrun 1\nreload\n",
-            "? not built\n= 1\n? not built\n",
+            "put m/a.rb 1\nrun 1\nreload\nrun 2\n",
+            "? not built\n? not built\n= 2\n",
+        ),
+        ("put m/a.rb 2\nrun 1\n", "? input ended\n"),
+        (
+            "del m/user.rb\neager\neager_dir m\neager_ns User\nload m/user.rb\ncheck\nrun User.size\n",
+            "? not built\n? not built\n? not built\n? not built\n? not built\n? not built\n= 40\n",
+        ),
+        ("runs 2\nUser\n.size\nrun 3\n", "? not built\n= 3\n"),
+        ("runs 1\nUser.size\nrun 3\n", "= 40\n= 3\n"),
+        (
+            "map 1\nexpect\nshadows \neager_ns user\n",
+            "? bad argument\n? bad argument\n? bad argument\n",
         ),
     ];
     for (stream, output) in rows {
@@ -327,16 +339,24 @@ const REFUSED: [(&str, &str); 13] = [
         "ignore = []\nboot = \"../b.rb\"\n",
         "config: bad path boot\n",
     ),
-    ("ignore = []\n", "config: not built\n"),
     ("eager = false\n", "config: not built\n"),
-    ("root = []\n", "config: not built\n"),
     (
-        "[[root]]\npath = \"m\"\nnamespace = \"Object\"\n",
+        "boot = \"boot.rb\"\n[[root]]\npath = \"m\"\nnamespace = \"Nope\"\n",
         "config: not built\n",
     ),
     (
-        "[[root]]\npath = \"m\"\n[[root]]\npath = \"n\"\n",
-        "config: not built\n",
+        "[[root]]\npath = \"m\"\nnamespace = \"Nope\"\n",
+        "config: namespace Nope\n",
+    ),
+    (
+        "[[root]]\npath = \"m\"\nnamespace = \"Zeitwerk::Error\"\n\
+         [[root]]\npath = \"n\"\nnamespace = \"Object::Integer\"\n",
+        "config: namespace Object::Integer\n",
+    ),
+    (
+        "[[root]]\npath = \"n\"\nnamespace = \"Integer::Error\"\n\
+         [[root]]\npath = \"m\"\nnamespace = \"Nope\"\n",
+        "config: namespace Integer::Error\n",
     ),
 ];
 
@@ -382,6 +402,25 @@ fn accepted_configurations(rt: HostRuntime) -> Result<(), Fail> {
             "! NameError: uninitialized constant User\n",
         ),
         ("# none\n", "! NameError: uninitialized constant User\n"),
+        ("root = []\n", "! NameError: uninitialized constant User\n"),
+        (
+            "ignore = [\"m\"]\n[[root]]\npath = \"m\"\n",
+            "! NameError: uninitialized constant User\n",
+        ),
+        // Files are visible, and the configuration is not the first path's.
+        ("ignore = []\n[[root]]\npath = \"m\"\n", "? not built\n"),
+        (
+            "[[root]]\npath = \"m\"\nnamespace = \"Object\"\n",
+            "? not built\n",
+        ),
+        (
+            "[[root]]\npath = \"m\"\n[[root]]\npath = \"n\"\n",
+            "? not built\n",
+        ),
+        (
+            "[[root]]\npath = \"m\"\nnamespace = \"Zeitwerk::Error\"\n",
+            "? not built\n",
+        ),
     ];
     for (configuration, output) in configurations {
         let row = Row {
@@ -394,29 +433,21 @@ fn accepted_configurations(rt: HostRuntime) -> Result<(), Fail> {
     Ok(())
 }
 
+// Trees with a file that the first path does not carry out.
 #[test]
 fn files_that_are_not_built(rt: HostRuntime) -> Result<(), Fail> {
     let files = [
-        ("m/a/user.rb", USER, "not built: m/a/user.rb\n"),
-        ("m/User.rb", USER, "not built: m/User.rb\n"),
-        (
-            "m/string.rb",
-            "class String\nend\n",
-            "not built: m/string.rb\n",
-        ),
-        ("m/user.rb", "class User\nend", "not built: m/user.rb\n"),
-        (
-            "m/user.rb",
-            "class User\ndef self.size\n040\nend\nend\n",
-            "not built: m/user.rb\n",
-        ),
+        ("m/a/user.rb", USER),
+        ("m/User.rb", USER),
+        ("m/string.rb", "class String\nend\n"),
+        ("m/user.rb", "class User\nend"),
+        ("m/user.rb", "class User\ndef self.size\n040\nend\nend\n"),
     ];
-    for (path, text, output) in files {
+    for (path, text) in files {
         let row = Row {
             path,
             text,
-            output,
-            status: Status::Config,
+            output: "? not built\n",
             ..PLAIN
         };
         try_row(&rt, rt.alloc(), &row)?;
@@ -448,11 +479,11 @@ fn expected_elsewhere(rt: HostRuntime) -> Result<(), Fail> {
         ],
     )?;
     let words = words_of(alloc, PLAIN.words)?;
-    let mut source = MemSource::new(Vec::new(alloc), 4096, Vec::new(alloc));
+    let mut source = MemSource::new(b"run 1\n".to_vec(alloc)?, 4096, Vec::new(alloc));
     let mut sink = MemSink::new(alloc, 4096, Vec::new(alloc));
     let status = run(alloc, &words, &mut folder, &mut source, &mut sink);
-    assert!(rt; status == Status::Config);
-    assert!(rt; sink.taken() == b"not built: m/bar.rb\n".as_slice());
+    assert!(rt; status == Status::Done);
+    assert!(rt; sink.taken() == b"? not built\n".as_slice());
     Ok(())
 }
 

@@ -3,35 +3,35 @@ use std::alloc::Global;
 use std::process::Abort;
 use std::test::Fail;
 use zw_path::Path;
-use zw_thin::{NotBuilt, Session, SessionFault};
-use zw_thin_tree::Tree;
+use zw_thin::{File, NotBuilt, Session, SessionFault};
 
+/// Files in path order.
 type Files = &'static [(&'static str, &'static str)];
 
 const TREE: Files = &[
-    (
-        "m/user.rb",
-        "class User\n  def self.size\n    40\n  end\nend\n",
-    ),
+    ("m/bus.rb", "class Vehicle\ndef self.wheels\n6\nend\nend\n"),
     (
         "m/car.rb",
         "class Vehicle\n\tdef self.wheels\n4\nend\nend\n",
     ),
-    ("m/bus.rb", "class Vehicle\ndef self.wheels\n6\nend\nend\n"),
     (
         "m/twice.rb",
         "class Twice\ndef self.x\n1\nend\ndef self.x\n2\nend\nend\n",
     ),
+    (
+        "m/user.rb",
+        "class User\n  def self.size\n    40\n  end\nend\n",
+    ),
 ];
 
-fn tree_of(rt: &impl Abort, alloc: Global, files: Files) -> Result<Tree, Fail> {
-    let mut tree = Tree::new(alloc);
+fn files_of(alloc: Global, files: Files) -> Result<Vec<File<'static>>, Fail> {
+    let mut all = Vec::new(alloc);
     for (path, text) in files {
-        assert!(rt; tree.size() < 1000, "at {path:?}");
-        let text = text.as_bytes().to_vec(alloc)?;
-        tree.put(Path::parse(alloc, path)?, text)?;
+        let path = Path::parse(alloc, path)?;
+        let text = text.as_bytes();
+        all.push(File { path, text })?;
     }
-    Ok(tree)
+    Ok(all)
 }
 
 /// Expressions in their order, and the lines that they answer, where they are built so far.
@@ -71,8 +71,8 @@ const EXPRESSIONS: &[(&str, Option<&str>)] = &[
 #[test]
 fn expressions_are_answered(rt: HostRuntime) -> Result<(), Fail> {
     let root = Path::parse(rt.alloc(), "m")?;
-    let tree = tree_of(&rt, rt.alloc(), TREE)?;
-    let mut session = Session::new(rt.alloc(), &root, &tree)?;
+    let files = files_of(rt.alloc(), TREE)?;
+    let mut session = Session::new(rt.alloc(), &root, &files)?;
     for (expression, expected) in EXPRESSIONS {
         let line = session.run(rt.alloc(), expression.as_bytes())?;
         assert!(rt; line.as_deref() == *expected, "at {expression}");
@@ -90,8 +90,8 @@ const REFUSED: &[(Files, &str)] = &[
     (&[("m/integer.rb", "class Number\nend\n")], "m/integer.rb"),
     (
         &[
-            ("m/a_b.rb", "class AB\nend\n"),
             ("m/a__b.rb", "class AB\nend\n"),
+            ("m/a_b.rb", "class AB\nend\n"),
         ],
         "m/a_b.rb",
     ),
@@ -118,8 +118,8 @@ const REFUSED: &[(Files, &str)] = &[
 fn trees_are_refused(rt: HostRuntime) -> Result<(), Fail> {
     let root = Path::parse(rt.alloc(), "m")?;
     for (files, at) in REFUSED {
-        let tree = tree_of(&rt, rt.alloc(), files)?;
-        match Session::new(rt.alloc(), &root, &tree) {
+        let files = files_of(rt.alloc(), files)?;
+        match Session::new(rt.alloc(), &root, &files) {
             Err(SessionFault::Refused(NotBuilt(path))) => {
                 assert!(rt; path.text(rt.alloc())?.as_str() == *at, "at {at}");
             }

@@ -1,17 +1,8 @@
-use Rattle.std.proofs.Common.{map, ap, sym, ◌∙◌}
+use Rattle.std.proofs.Common.{map, ap, ◌∙◌}
 use Rattle.std.specs.Option.{is_some}
-use Rattle.std.specs.Str.{bytes_eq}
-use Rattle.zw_map.proofs.BootLemmas.{find_more, find_hit}
+use Rattle.zw_map.specs.BootSeen.{row_at}
+use Rattle.zw_map.proofs.BootLemmas.{row_defined}
 use Rattle.zw_map.proofs.boot.is_defined.Goals as goal
 
-pub returns-then-are_same : goal.returns-then-are_same
-returns-then-are_same c =
-    let q = map (λ n. n.0) c.args.names.now in
-    let hit = sym (c.are_same.ensures ∙ ap (λ p. bytes_eq p q) c.names.ensures) ∙ c.if-are_same.true in
-    sym (ap is_some (find_hit (λ row. bytes_eq row.0 q) c.args.boot.now c.loop-row.row-index c.row-item.result c.loop-row.invariant c.loop-row-test.true c.row-item.is hit))
-
-pub loop-row-preserved : goal.loop-row-preserved
-loop-row-preserved c =
-    let q = map (λ n. n.0) c.args.names.now in
-    let other = sym (c.are_same.ensures ∙ ap (λ p. bytes_eq p q) c.names.ensures) ∙ c.if-are_same.false in
-    find_more (λ row. bytes_eq row.0 q) c.args.boot.now c.loop-row.row-index c.row-item.result c.loop-row.invariant c.loop-row-test.true c.row-item.is other
+pub returns : goal.returns
+returns c = c.is_some.ensures ∙ ap is_some c.own_at.ensures ∙ row_defined (row_at c.args.boot.now (map (λ n. n.0) c.args.names.now))

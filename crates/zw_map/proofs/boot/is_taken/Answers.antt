@@ -1,17 +1,10 @@
-use Rattle.std.proofs.Common.{false, not, map, ap, sym, ◌∙◌}
-use Rattle.std.specs.Option.{option_map_or}
-use Rattle.std.specs.Str.{bytes_eq}
-use Rattle.zw_map.proofs.BootLemmas.{find_more, find_hit}
+use Rattle.std.proofs.Common.{map, sym, ◌∙◌}
+use Rattle.zw_map.specs.BootSeen.{row_at}
+use Rattle.zw_map.proofs.BootLemmas.{row_taken, row_not_taken}
 use Rattle.zw_map.proofs.boot.is_taken.Goals as goal
 
-pub returns-then-are_same : goal.returns-then-are_same
-returns-then-are_same c =
-    let q = map (λ n. n.0) c.args.names.now in
-    let hit = sym (c.are_same.ensures ∙ ap (λ p. bytes_eq p q) c.names.ensures) ∙ c.if-are_same.true in
-    sym (ap (λ o. option_map_or (λ row. not row.1) o false) (find_hit (λ row. bytes_eq row.0 q) c.args.boot.now c.loop-row.row-index c.row-item.result c.loop-row.invariant c.loop-row-test.true c.row-item.is hit))
+pub returns-in-Some : goal.returns-in-Some
+returns-in-Some c = row_taken (row_at c.args.boot.now (map (λ n. n.0) c.args.names.now)) c.in-Some.own (sym c.in-Some.is ∙ c.own_at.ensures)
 
-pub loop-row-preserved : goal.loop-row-preserved
-loop-row-preserved c =
-    let q = map (λ n. n.0) c.args.names.now in
-    let other = sym (c.are_same.ensures ∙ ap (λ p. bytes_eq p q) c.names.ensures) ∙ c.if-are_same.false in
-    find_more (λ row. bytes_eq row.0 q) c.args.boot.now c.loop-row.row-index c.row-item.result c.loop-row.invariant c.loop-row-test.true c.row-item.is other
+pub returns-in-None : goal.returns-in-None
+returns-in-None c = row_not_taken (row_at c.args.boot.now (map (λ n. n.0) c.args.names.now)) (sym c.in-None.is ∙ c.own_at.ensures)

@@ -13,4 +13,5 @@ returns-in-Ok c = record {
       is names layout tree scan distinct boot_named (subst (λ e. IfOk e (AreNamed names)) c.in-Ok.is named)
       ∙ sym (ap (λ e. shadowed_as (boot_seen names c.args.boot.now) (expecting_files layout tree) c.args.claim.now.path (expected_seen names e)) c.in-Ok.is))
       c.shadow_at.ensures.told;
+  named = IfOk-weaker c.shadow_at.result _ _ (λ row is names named. is names (subst (λ e. IfOk e (AreNamed names)) c.in-Ok.is named)) c.shadow_at.ensures.named;
 }

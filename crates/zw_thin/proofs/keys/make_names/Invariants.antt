@@ -1,7 +1,7 @@
 use Rattle.std.proofs.Common.{◌≡◌, drop, map}
 use Rattle.zw_def_thin.specs.Map.{visible}
 use Rattle.zw_def_thin.specs.Built.{expected_names}
-use Rattle.zw_thin_tree.specs.File.{file_seen}
+use Rattle.zw_thin.specs.File.{file_seen}
 use Rattle.zw_thin.specs.Start.{with_names}
 use Rattle.zw_thin.proofs.keys.make_names.Given as goal
 

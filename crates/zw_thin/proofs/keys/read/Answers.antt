@@ -1,10 +1,10 @@
 use Rattle.std.proofs.Common.{◌∙◌, sym, ap, Some, true, false, option_map, string_bytes, subst, IfSome}
 use Rattle.std.proofs.lemmas.Option.{slice_get_within}
-use Rattle.zw_def_thin.specs.ClassFile.{class_file, is_core}
+use Rattle.zw_def_thin.specs.ClassFile.{is_core}
 use Rattle.zw_def.specs.Text.{is_plain_word}
 use Rattle.zw_def.specs.Names.{text_of}
 use Rattle.zw_def.proofs.NameLemmas.{OnlyGrows-trans, text_later, number_grown}
-use Rattle.zw_thin_tree.specs.File.{file_seen}
+use Rattle.zw_thin.specs.File.{file_seen}
 use Rattle.zw_thin.specs.ClassFile.{class_seen, ClassNamed}
 use Rattle.zw_thin.proofs.StartLemmas.{key_read}
 use Rattle.zw_thin.proofs.keys.read.Goals as goal
@@ -20,7 +20,7 @@ returns-then-not-may_define-clause-told c = λ front is.
     (sym (ap is_plain_word (c.as_bytes.ensures.value ∙ c.base.ensures)) ∙ sym c.is_plain_word.ensures ∙ c.if-not-is_plain_word.false)
     (text_later made names n c.deref-2.result.now grows c.in_ok-name-2.ensures.named ∙ c.deref-2.ensures)
     (ap (option_map string_bytes) (sym c.in-Some.is) ∙ c.in_ok-name.ensures)
-    (ap (option_map (class_seen names)) (sym c.in-Some-2.is) ∙ c.in_ok-class.ensures.told ∙ ap class_file c.deref-3.ensures.value)
+    (ap (option_map (class_seen names)) (sym c.in-Some-2.is) ∙ c.in_ok-class.ensures.told)
     (ap is_core (sym c.deref.ensures) ∙ sym c.is_core.ensures ∙ c.if-is_core.false)
     (sym (c.may_define.ensures front (is.0, grown)) ∙ c.if-not-may_define.true)
 
@@ -36,7 +36,7 @@ returns-clause-told c = λ front is.
     (sym (ap is_plain_word (c.as_bytes.ensures.value ∙ c.base.ensures)) ∙ sym c.is_plain_word.ensures ∙ c.if-not-is_plain_word.false)
     (text_later made names n c.deref-2.result.now grows c.in_ok-name-2.ensures.named ∙ c.deref-2.ensures)
     (ap (option_map string_bytes) (sym c.in-Some.is) ∙ c.in_ok-name.ensures)
-    (ap (option_map (class_seen names)) (sym c.in-Some-2.is) ∙ c.in_ok-class.ensures.told ∙ ap class_file c.deref-3.ensures.value)
+    (ap (option_map (class_seen names)) (sym c.in-Some-2.is) ∙ c.in_ok-class.ensures.told)
     (ap is_core (sym c.deref.ensures) ∙ sym c.is_core.ensures ∙ c.if-is_core.false)
     (sym (c.may_define.ensures front (is.0, grown)) ∙ c.if-not-may_define.false)
 

@@ -1,6 +1,6 @@
 use Rattle.std.proofs.Common.{◌≡◌, ◌∙◌, sym, ap, Some, true, MatchBool, IfOk, option_map, subst}
 use Rattle.zw_def.specs.Text.{is_among}
-use Rattle.zw_thin_tree.specs.File.{file_seen}
+use Rattle.zw_thin.specs.File.{file_seen}
 use Rattle.zw_thin.specs.Key.{key_seen, keys_seen}
 use Rattle.zw_thin.specs.Start.{names_in, AddsKey}
 use Rattle.zw_thin.proofs.NamedLemmas.{keys_grown}
