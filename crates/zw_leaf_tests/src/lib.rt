@@ -20,4 +20,3 @@ mod names;
 mod path;
 #[cfg(test)]
 mod table;
-#[cfg(test)]

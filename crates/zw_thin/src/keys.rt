@@ -10,6 +10,7 @@ ghost use Rattle.zw_thin.specs.Held.{idle_file, without_file};
 ghost use Rattle.zw_thin.specs.Start.{with_names, visible_names, TellsMayDefine, ReadsKey, Adds, TakesIn};
 
 use crate::class_file::{self, ClassFile};
+use crate::file::File;
 use crate::inflector::camelize;
 use crate::words::Words;
 use indexmap::IndexMap;
@@ -17,7 +18,6 @@ use std::alloc::{AllocError, Global};
 use zw_base::is_plain_word;
 use zw_names::{Name, Names, is_constant};
 use zw_path::Path;
-use crate::file::File;
 
 /// A file that was not evaluated yet.
 #[derive(Drop)]

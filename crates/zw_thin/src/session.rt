@@ -87,11 +87,7 @@ fn ending_of_call<'a>(names: &Names, class: Class<'a>, method: &'a str) -> Endin
 
 impl Session {
     /// The session of those of the files that lie below the root, where no constant is set yet.
-    pub fn new(
-        alloc: Global,
-        root: &Path,
-        files: &[File<'_>],
-    ) -> Result<Session, SessionFault>
+    pub fn new(alloc: Global, root: &Path, files: &[File<'_>]) -> Result<Session, SessionFault>
         ensures ok { IfOk result (StandsFor (world_at root.now (map file_seen files.now))) }
         ensures refused { IfRefused result (λ other.
             first_other root.now (visible root.now (map file_seen files.now)) ≡ Some other.0) }
