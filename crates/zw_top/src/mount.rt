@@ -164,10 +164,7 @@ fn mount<F: Folder>(
 {
     let mut mounting = Mounting::new(alloc, fixed.copy(alloc)?)?;
     'paths: for bytes in listing {
-        match take_listed(alloc, folder, &mut mounting, bytes) {
-            Ok(()) => {}
-            Err(fault) => return Err(fault),
-        }
+        take_listed(alloc, folder, &mut mounting, bytes)?;
     }
     Ok(mounting.tree)
 }
