@@ -28,7 +28,10 @@ pub(crate) fn put_lines<K: Sink>(out: &mut Out<K>, lines: Vec<String>) -> Result
     ensures counts { CountsPut result (K.faults out.old.sink.now) (K.faults out.new.sink.now) }
 {
     for line in lines {
-        put_line(out, line)?;
+        match put_line(out, line) {
+            Ok(()) => {}
+            Err(status) => return Err(status),
+        }
     }
     Ok(())
 }

@@ -164,7 +164,10 @@ fn mount<F: Folder>(
 {
     let mut mounting = Mounting::new(alloc, fixed.copy(alloc)?)?;
     'paths: for bytes in listing {
-        take_listed(alloc, folder, &mut mounting, bytes)?;
+        match take_listed(alloc, folder, &mut mounting, bytes) {
+            Ok(()) => {}
+            Err(fault) => return Err(fault),
+        }
     }
     Ok(mounting.tree)
 }
