@@ -1,12 +1,13 @@
-//! Primitive methods (ISO/IEC 30170, 15.2): which there are, by class and name, and what those of Integer and NilClass do;
-//! those of other classes are to come. It stands on the values of `zw_heap`, the steps of `zw_meter`, the faults of `zw_fault`,
-//! the texts of `zw_show` and the tables of `zw_table`. It promises that `prim` is some method exactly where the definition has
-//! one, and that a call ends as defined in every world that agrees with the heap, with the steps that are left; texts and
-//! arrays alone are added to the heap, and none that is not paid for.
+//! Primitive methods (ISO/IEC 30170, 15.2): which there are, by class and name, and what those of Integer, NilClass and
+//! Symbol do; those of other classes are to come. It stands on the values of `zw_heap`, the steps of `zw_meter`, the faults
+//! of `zw_fault`, the texts of `zw_show` and the tables of `zw_table`. It promises that `prim` is some method exactly where
+//! the definition has one, and that a call ends as defined in every world that agrees with the heap, with the steps that are
+//! left; texts and arrays alone are added to the heap, and none that is not paid for.
 #![tactic(auto)]
 
 mod argument;
 mod array_row;
+mod characters;
 mod checks;
 mod class;
 mod class_row;
@@ -24,7 +25,9 @@ mod object_row;
 mod prim_id;
 mod reading;
 mod string_row;
+pub mod symbol;
 mod symbol_row;
+mod text;
 
 pub use array_row::ArrayRow;
 pub use class_row::ClassRow;

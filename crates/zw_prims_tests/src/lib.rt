@@ -13,3 +13,7 @@ mod names;
 mod nil;
 #[cfg(test)]
 mod outcome;
+#[cfg(test)]
+mod symbol;
+#[cfg(test)]
+mod symbol_table;
