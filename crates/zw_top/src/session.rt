@@ -40,14 +40,7 @@ fn not_built(alloc: Global) -> Result<Vec<String>, AllocError>
 fn refusal(alloc: Global, reason: BadReason) -> Result<Vec<String>, AllocError>
     ensures { IfOk result (λ lines. lines_seen lines ≡ reason_line (reason_seen reason) ∷ []) }
 {
-    let line = match reason {
-        BadReason::LineTooLong => "? line too long",
-        BadReason::NotUtf8 => "? not UTF-8",
-        BadReason::Unknown => "? unknown command",
-        BadReason::BadArgument => "? bad argument",
-        BadReason::InputEnded => "? input ended",
-    };
-    alone(alloc, String::from_str(alloc, line)?)
+    alone(alloc, String::from_str(alloc, reason.text())?)
 }
 
 impl Session {
