@@ -21,6 +21,14 @@ agrees_before I w h g adds agrees = back (subst (λ (k : Held). Agrees I k w) ad
     back : Agrees I (record h { texts = g.texts; arrays = g.arrays }) w → Agrees I h w
     back a = record { modules = a.modules; objects = a.objects }
 
+-- what is added, and then more
+pub adds_both : (h g k : Held) → AddsValues h g → AddsValues g k → AddsValues h k
+adds_both h g k a b = record {
+  adds = λ I names fit. a.adds I names (b.adds I names fit);
+  stays = λ x held. b.stays x (a.stays x held);
+  records = b.records ∙ ap (λ (x : Held). record x { texts = k.texts; arrays = k.arrays }) a.records;
+}
+
 module _ (names : List Text) (h : Held) (a : Arguments) (x : Value) (xs : List Value) (raise : Option Raise) (taken : Arguments) (are : taken ≡ a) (found : (act : Act) → AreSame h names (λ I. tested taken (tell I x) (map (tell I) xs) act) (λ I. unless_fault raise act)) (does : Site → Telling → Act) where
   tests : (act : Act) → AreSame h names (λ I. tested a (tell I x) (map (tell I) xs) act) (λ I. unless_fault raise act)
   tests act = subst (λ b. AreSame h names (λ I. tested b (tell I x) (map (tell I) xs) act) (λ I. unless_fault raise act)) are (found act)

@@ -6,3 +6,14 @@ pub mod PerformLemmas
 pub mod IntegerLemmas
 pub mod CallLemmas
 pub mod NamedLemmas
+pub mod TextLemmas
+pub mod CutLemmas
+pub mod PieceLemmas
+pub mod NamingLemmas
+pub mod WorkLemmas
+pub mod SpaceLemmas
+pub mod DigitLemmas
+pub mod PaddingLemmas
+pub mod CharacterLemmas
+pub mod CaseLemmas
+pub mod PartLemmas

@@ -18,3 +18,6 @@ pub mod Argument
 pub mod Classes
 pub mod Flat
 pub mod Call
+pub mod Naming
+pub mod Pieces
+pub mod Work

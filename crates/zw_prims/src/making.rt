@@ -18,16 +18,16 @@ use zw_heap::{Heap, HeapFault, Value};
 use zw_meter::Meter;
 
 /// The most bytes of a text.
-const MAX_TEXT: usize = 1_048_576;
+pub(crate) const MAX_TEXT: usize = 1_048_576;
 
 /// The most items of an array.
-const MAX_ITEMS: usize = 65_536;
+pub(crate) const MAX_ITEMS: usize = 65_536;
 
 /// How many bytes of a text are made in one step.
-const BYTES_A_STEP: u64 = 64;
+pub(crate) const BYTES_A_STEP: u64 = 64;
 
 /// A text that is not too long.
-fn new_text(text: &str, heap: &mut Heap) -> Result<Value, AllocError>
+pub(crate) fn new_text(text: &str, heap: &mut Heap) -> Result<Value, AllocError>
     requires { length text.now ≤ max_text }
     ensures adds { AddsValues heap.old heap.new }
     ensures held { IfOk result (IsIn (sizes_of heap.new)) }
@@ -66,7 +66,7 @@ pub(crate) fn text(
 }
 
 /// An array of values that are no arrays, where these are not too many.
-fn new_array(items: &[Value], heap: &mut Heap) -> Result<Value, AllocError>
+pub(crate) fn new_array(items: &[Value], heap: &mut Heap) -> Result<Value, AllocError>
     requires held { All (IsIn (sizes_of heap.old)) items.now }
     requires flat { All IsFlat items.now }
     requires few { length items.now ≤ max_items }

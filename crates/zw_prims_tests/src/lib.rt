@@ -14,6 +14,10 @@ mod nil;
 #[cfg(test)]
 mod outcome;
 #[cfg(test)]
+mod string;
+#[cfg(test)]
+mod string_table;
+#[cfg(test)]
 mod symbol;
 #[cfg(test)]
 mod symbol_table;
