@@ -15,12 +15,12 @@ use Rattle.zw_def_world.specs.Value as told
 use Rattle.zw_heap.specs.Heap.{Held}
 use Rattle.zw_heap.specs.Telling.{Telling, tell}
 use Rattle.zw_heap.specs.declared.value.Value.{Value}
-use Rattle.zw_prims.specs.End.{EndsAtOnce, Performs}
-use Rattle.zw_prims.specs.Integer.{IsInRange}
-use Rattle.zw_prims.specs.IntegerRow.{integer_row_seen}
-use Rattle.zw_prims.specs.declared.end.PrimEnd.{PrimEnd}
-use Rattle.zw_prims.specs.declared.integer_row.IntegerRow.{IntegerRow}
-use Rattle.zw_prims.proofs.PerformLemmas.{all_at_once, all_same}
+use Rattle.zw_calls.specs.End.{EndsAtOnce, Performs}
+use Rattle.zw_calls.specs.Integer.{IsInRange}
+use Rattle.zw_calls.specs.IntegerRow.{integer_row_seen}
+use Rattle.zw_calls.specs.declared.end.PrimEnd.{PrimEnd}
+use Rattle.zw_calls.specs.declared.integer_row.IntegerRow.{IntegerRow}
+use Rattle.zw_calls.proofs.PerformLemmas.{all_at_once, all_same}
 
 abbrev pub called : IntegerRow → ℤ → List Value → Site → Telling → Act
 called row number args s I = integer_act s (integer_row_seen row).1 (told.int number) (map (tell I) args)

@@ -10,10 +10,11 @@ use crate::outcome::outcome;
 use std::alloc::Global;
 use std::process::Abort;
 use std::test::Fail;
+use zw_calls::{IntegerRow, PrimId, prim};
 use zw_heap::{CoreClass, Heap, Value};
 use zw_meter::Meter;
 use zw_names::Names;
-use zw_prims::{IntegerRow, PrimId, integer, prim};
+use zw_prims::integer;
 
 fn row(rt: &impl Abort, name: &str) -> IntegerRow {
     match prim(CoreClass::Integer, name) {

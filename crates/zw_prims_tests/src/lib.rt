@@ -4,9 +4,15 @@
 #![tactic(auto)]
 
 #[cfg(test)]
+mod array;
+#[cfg(test)]
+mod array_table;
+#[cfg(test)]
 mod integer;
 #[cfg(test)]
 mod integer_table;
+#[cfg(test)]
+mod item;
 #[cfg(test)]
 mod names;
 #[cfg(test)]

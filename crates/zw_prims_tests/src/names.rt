@@ -2,8 +2,8 @@
 
 use std::process::Abort;
 use std::test::Fail;
+use zw_calls::{prim, row};
 use zw_heap::CoreClass;
-use zw_prims::{prim, row};
 
 /// The methods of each class or module that has some.
 const METHODS: &[(CoreClass, &str)] = &[

@@ -4,10 +4,11 @@ use crate::outcome::outcome;
 use std::alloc::Global;
 use std::process::Abort;
 use std::test::Fail;
+use zw_calls::{NilRow, PrimId, prim};
 use zw_heap::{CoreClass, Heap, Value};
 use zw_meter::Meter;
 use zw_names::Names;
-use zw_prims::{NilRow, PrimId, nil, prim};
+use zw_prims::nil;
 
 fn row(rt: &impl Abort, name: &str) -> NilRow {
     match prim(CoreClass::NilClass, name) {

@@ -5,9 +5,9 @@ ghost use Rattle.zw_prims.specs.End.{EndIn};
 
 use std::alloc::Global;
 use std::test::Fail;
+use zw_calls::PrimEnd;
 use zw_heap::Heap;
 use zw_names::Names;
-use zw_prims::PrimEnd;
 use zw_show::inspect;
 
 /// The inspect text of a value, the fault line of an exception, or which other end it is.

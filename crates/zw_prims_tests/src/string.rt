@@ -10,10 +10,11 @@ use crate::string_table::{ALONE, PARTS, SPLIT, WITH_NUMBER, WITH_TEXT};
 use std::alloc::Global;
 use std::process::Abort;
 use std::test::Fail;
+use zw_calls::{PrimId, StringRow, prim};
 use zw_heap::{CoreClass, Heap, TextRef, Value};
 use zw_meter::Meter;
 use zw_names::Names;
-use zw_prims::{PrimId, StringRow, prim, string};
+use zw_strings::string;
 
 fn row(rt: &impl Abort, name: &str) -> StringRow {
     match prim(CoreClass::String, name) {
@@ -82,9 +83,20 @@ fn call(
     };
     if let Arguments::Integers(_, second) = args {
         let values = [value, Value::Int(*second)];
-        return told(rt, alloc, name, receiver, &values, left, &mut heap, &mut names);
+        return told(
+            rt, alloc, name, receiver, &values, left, &mut heap, &mut names,
+        );
     }
-    told(rt, alloc, name, receiver, &[value], left, &mut heap, &mut names)
+    told(
+        rt,
+        alloc,
+        name,
+        receiver,
+        &[value],
+        left,
+        &mut heap,
+        &mut names,
+    )
 }
 
 fn try_call(
@@ -96,7 +108,10 @@ fn try_call(
     wanted: &str,
 ) -> Result<(), Fail> {
     let (made, _) = call(rt, alloc, name, text, args, 999)?;
-    assert!(rt; made.as_str() == wanted, "{name} of {text}: {made}, not {wanted}");
+    assert!(rt;
+        made.as_str() == wanted,
+        "{name} of {text}: {made}, not {wanted}"
+    );
     Ok(())
 }
 
@@ -111,7 +126,14 @@ fn methods_without_arguments(rt: HostRuntime) -> Result<(), Fail> {
 #[test]
 fn methods_with_a_text(rt: HostRuntime) -> Result<(), Fail> {
     for (name, text, other, wanted) in WITH_TEXT {
-        try_call(&rt, rt.alloc(), name, text, &Arguments::Text(*other), wanted)?;
+        try_call(
+            &rt,
+            rt.alloc(),
+            name,
+            text,
+            &Arguments::Text(*other),
+            wanted,
+        )?;
     }
     Ok(())
 }
@@ -119,7 +141,14 @@ fn methods_with_a_text(rt: HostRuntime) -> Result<(), Fail> {
 #[test]
 fn pieces_stand_between_separators(rt: HostRuntime) -> Result<(), Fail> {
     for (text, separator, wanted) in SPLIT {
-        try_call(&rt, rt.alloc(), "split", text, &Arguments::Text(*separator), wanted)?;
+        try_call(
+            &rt,
+            rt.alloc(),
+            "split",
+            text,
+            &Arguments::Text(*separator),
+            wanted,
+        )?;
     }
     Ok(())
 }
@@ -127,7 +156,14 @@ fn pieces_stand_between_separators(rt: HostRuntime) -> Result<(), Fail> {
 #[test]
 fn methods_with_an_integer(rt: HostRuntime) -> Result<(), Fail> {
     for (name, text, number, wanted) in WITH_NUMBER {
-        try_call(&rt, rt.alloc(), name, text, &Arguments::Integer(*number), wanted)?;
+        try_call(
+            &rt,
+            rt.alloc(),
+            name,
+            text,
+            &Arguments::Integer(*number),
+            wanted,
+        )?;
     }
     Ok(())
 }
@@ -148,46 +184,206 @@ const OWN: &[Own] = &[
     ("to_i", "+5", Arguments::None, "0"),
     ("to_i", " 5", Arguments::None, "0"),
     ("to_i", "1_0", Arguments::None, "1"),
-    ("to_i", "9223372036854775808", Arguments::None, "! RangeError: integer out of range"),
-    ("to_i", "-9223372036854775809", Arguments::None, "! RangeError: integer out of range"),
-    ("to_i", "18446744073709551616", Arguments::None, "! RangeError: integer out of range"),
-    ("to_i", "000000000000000000000000000001x", Arguments::None, "1"),
+    (
+        "to_i",
+        "9223372036854775808",
+        Arguments::None,
+        "! RangeError: integer out of range",
+    ),
+    (
+        "to_i",
+        "-9223372036854775809",
+        Arguments::None,
+        "! RangeError: integer out of range",
+    ),
+    (
+        "to_i",
+        "18446744073709551616",
+        Arguments::None,
+        "! RangeError: integer out of range",
+    ),
+    (
+        "to_i",
+        "000000000000000000000000000001x",
+        Arguments::None,
+        "1",
+    ),
     ("to_sym", "a", Arguments::None, ":a"),
     ("to_sym", "a ", Arguments::None, ":\"a \""),
     ("to_sym", "a#b", Arguments::None, ":\"a#b\""),
     ("to_sym", "", Arguments::None, ":\"\""),
     ("to_sym", "Object", Arguments::None, ":Object"),
-    ("*", "ab", Arguments::Integer(-1), "! ArgumentError: argument must be non-negative"),
-    ("*", "", Arguments::Integer(i64::MIN), "! ArgumentError: argument must be non-negative"),
+    (
+        "*",
+        "ab",
+        Arguments::Integer(-1),
+        "! ArgumentError: argument must be non-negative",
+    ),
+    (
+        "*",
+        "",
+        Arguments::Integer(i64::MIN),
+        "! ArgumentError: argument must be non-negative",
+    ),
     ("*", "", Arguments::Integer(i64::MAX), "\"\""),
-    ("*", "ab", Arguments::Integer(i64::MAX), "! RangeError: text too long"),
-    ("*", "ab", Arguments::Integer(524_289), "! RangeError: text too long"),
-    ("ljust", "ab", Arguments::Integer(i64::MAX), "! RangeError: text too long"),
-    ("rjust", "日", Arguments::Integer(1_048_575), "! RangeError: text too long"),
-    ("split", "ab", Arguments::Text(""), "! ArgumentError: empty separator"),
-    ("split", "", Arguments::Text(""), "! ArgumentError: empty separator"),
+    (
+        "*",
+        "ab",
+        Arguments::Integer(i64::MAX),
+        "! RangeError: text too long",
+    ),
+    (
+        "*",
+        "ab",
+        Arguments::Integer(524_289),
+        "! RangeError: text too long",
+    ),
+    (
+        "ljust",
+        "ab",
+        Arguments::Integer(i64::MAX),
+        "! RangeError: text too long",
+    ),
+    (
+        "rjust",
+        "日",
+        Arguments::Integer(1_048_575),
+        "! RangeError: text too long",
+    ),
+    (
+        "split",
+        "ab",
+        Arguments::Text(""),
+        "! ArgumentError: empty separator",
+    ),
+    (
+        "split",
+        "",
+        Arguments::Text(""),
+        "! ArgumentError: empty separator",
+    ),
     ("<=>", "a", Arguments::Symbol("a"), "nil"),
     ("<=>", "a", Arguments::Integer(1), "nil"),
-    ("+", "a", Arguments::Symbol("a"), "! TypeError: wrong argument type Symbol (expected String)"),
-    ("+", "a", Arguments::Nil, "! TypeError: wrong argument type NilClass (expected String)"),
-    ("*", "a", Arguments::Text("a"), "! TypeError: wrong argument type String (expected Integer)"),
-    ("<", "a", Arguments::Nil, "! ArgumentError: comparison of String with NilClass failed"),
-    ("<=", "a", Arguments::Symbol("a"), "! ArgumentError: comparison of String with Symbol failed"),
-    (">", "a", Arguments::Integer(1), "! ArgumentError: comparison of String with Integer failed"),
-    (">=", "a", Arguments::Nil, "! ArgumentError: comparison of String with NilClass failed"),
-    ("include?", "a", Arguments::Nil, "! TypeError: wrong argument type NilClass (expected String)"),
-    ("start_with?", "a", Arguments::Nil, "! TypeError: wrong argument type NilClass (expected String)"),
-    ("end_with?", "a", Arguments::Nil, "! TypeError: wrong argument type NilClass (expected String)"),
-    ("[]", "a", Arguments::Nil, "! TypeError: wrong argument type NilClass (expected Integer)"),
-    ("[]", "a", Arguments::None, "! ArgumentError: wrong number of arguments (given 0, expected 1..2)"),
-    ("split", "a", Arguments::Nil, "! TypeError: wrong argument type NilClass (expected String)"),
-    ("ljust", "a", Arguments::Nil, "! TypeError: wrong argument type NilClass (expected Integer)"),
-    ("rjust", "a", Arguments::Nil, "! TypeError: wrong argument type NilClass (expected Integer)"),
-    ("delete_prefix", "a", Arguments::Nil, "! TypeError: wrong argument type NilClass (expected String)"),
-    ("delete_suffix", "a", Arguments::Nil, "! TypeError: wrong argument type NilClass (expected String)"),
-    ("size", "a", Arguments::Nil, "! ArgumentError: wrong number of arguments (given 1, expected 0)"),
-    ("chars", "a", Arguments::Integers(1, 2), "! ArgumentError: wrong number of arguments (given 2, expected 0)"),
-    ("to_sym", "a", Arguments::Nil, "! ArgumentError: wrong number of arguments (given 1, expected 0)"),
+    (
+        "+",
+        "a",
+        Arguments::Symbol("a"),
+        "! TypeError: wrong argument type Symbol (expected String)",
+    ),
+    (
+        "+",
+        "a",
+        Arguments::Nil,
+        "! TypeError: wrong argument type NilClass (expected String)",
+    ),
+    (
+        "*",
+        "a",
+        Arguments::Text("a"),
+        "! TypeError: wrong argument type String (expected Integer)",
+    ),
+    (
+        "<",
+        "a",
+        Arguments::Nil,
+        "! ArgumentError: comparison of String with NilClass failed",
+    ),
+    (
+        "<=",
+        "a",
+        Arguments::Symbol("a"),
+        "! ArgumentError: comparison of String with Symbol failed",
+    ),
+    (
+        ">",
+        "a",
+        Arguments::Integer(1),
+        "! ArgumentError: comparison of String with Integer failed",
+    ),
+    (
+        ">=",
+        "a",
+        Arguments::Nil,
+        "! ArgumentError: comparison of String with NilClass failed",
+    ),
+    (
+        "include?",
+        "a",
+        Arguments::Nil,
+        "! TypeError: wrong argument type NilClass (expected String)",
+    ),
+    (
+        "start_with?",
+        "a",
+        Arguments::Nil,
+        "! TypeError: wrong argument type NilClass (expected String)",
+    ),
+    (
+        "end_with?",
+        "a",
+        Arguments::Nil,
+        "! TypeError: wrong argument type NilClass (expected String)",
+    ),
+    (
+        "[]",
+        "a",
+        Arguments::Nil,
+        "! TypeError: wrong argument type NilClass (expected Integer)",
+    ),
+    (
+        "[]",
+        "a",
+        Arguments::None,
+        "! ArgumentError: wrong number of arguments (given 0, expected 1..2)",
+    ),
+    (
+        "split",
+        "a",
+        Arguments::Nil,
+        "! TypeError: wrong argument type NilClass (expected String)",
+    ),
+    (
+        "ljust",
+        "a",
+        Arguments::Nil,
+        "! TypeError: wrong argument type NilClass (expected Integer)",
+    ),
+    (
+        "rjust",
+        "a",
+        Arguments::Nil,
+        "! TypeError: wrong argument type NilClass (expected Integer)",
+    ),
+    (
+        "delete_prefix",
+        "a",
+        Arguments::Nil,
+        "! TypeError: wrong argument type NilClass (expected String)",
+    ),
+    (
+        "delete_suffix",
+        "a",
+        Arguments::Nil,
+        "! TypeError: wrong argument type NilClass (expected String)",
+    ),
+    (
+        "size",
+        "a",
+        Arguments::Nil,
+        "! ArgumentError: wrong number of arguments (given 1, expected 0)",
+    ),
+    (
+        "chars",
+        "a",
+        Arguments::Integers(1, 2),
+        "! ArgumentError: wrong number of arguments (given 2, expected 0)",
+    ),
+    (
+        "to_sym",
+        "a",
+        Arguments::Nil,
+        "! ArgumentError: wrong number of arguments (given 1, expected 0)",
+    ),
 ];
 
 #[test]
@@ -244,6 +440,9 @@ fn a_step_is_paid_for_each_64_bytes_and_each_item(rt: HostRuntime) -> Result<(),
 #[test]
 fn pieces_are_paid_before_their_array(rt: HostRuntime) -> Result<(), Fail> {
     let (made, left) = call(&rt, rt.alloc(), "split", ROW, &Arguments::Text(","), 1)?;
-    assert!(rt; made.as_str() == "budget" && left == 0, "split: {made}, {left} steps left");
+    assert!(rt;
+        made.as_str() == "budget" && left == 0,
+        "split: {made}, {left} steps left"
+    );
     Ok(())
 }

@@ -10,9 +10,10 @@ use crate::symbol_table::COMPARED;
 use std::alloc::Global;
 use std::process::Abort;
 use std::test::Fail;
+use zw_calls::{PrimId, SymbolRow, prim};
 use zw_heap::{CoreClass, Heap, Value};
 use zw_names::{Name, Names};
-use zw_prims::{PrimId, SymbolRow, prim, symbol};
+use zw_strings::symbol;
 
 fn row(rt: &impl Abort, name: &str) -> SymbolRow {
     match prim(CoreClass::Symbol, name) {

@@ -10,10 +10,10 @@ use Rattle.zw_def_world.specs.Making.{makes_integer}
 use Rattle.zw_def_world.specs.Site.{yes_or_no}
 use Rattle.zw_def_world.specs.Value as told
 use Rattle.zw_heap.specs.Telling.{Telling, tell}
-use Rattle.zw_prims.specs.End.{EndsAtOnce}
-use Rattle.zw_prims.specs.Integer.{IsInRange}
-use Rattle.zw_prims.specs.declared.end.PrimEnd.TheVariants as e
-use Rattle.zw_prims.specs.declared.integer_row.IntegerRow.TheVariants as r
+use Rattle.zw_calls.specs.End.{EndsAtOnce}
+use Rattle.zw_calls.specs.Integer.{IsInRange}
+use Rattle.zw_calls.specs.declared.end.PrimEnd.TheVariants as e
+use Rattle.zw_calls.specs.declared.integer_row.IntegerRow.TheVariants as r
 use Rattle.zw_prims.proofs.IntegerLemmas.{arm, making_arm, abs_in_range}
 use Rattle.zw_prims.proofs.integer.act.Goals as goal
 

@@ -5,8 +5,8 @@ use Rattle.zw_def_world.specs.Argument.{integer_arguments}
 use Rattle.zw_def_world.specs.IntegerRows.{integer_act}
 use Rattle.zw_heap.specs.Telling.{tell}
 use Rattle.zw_heap.specs.declared.value.Value.TheVariants as v
-use Rattle.zw_prims.specs.IntegerRow.{integer_row_seen}
-use Rattle.zw_prims.proofs.CallLemmas.{refused, passed}
+use Rattle.zw_calls.specs.IntegerRow.{integer_row_seen}
+use Rattle.zw_calls.proofs.CallLemmas.{refused, passed}
 use Rattle.zw_prims.proofs.integer.apply.Goals as goal
 
 pub returns-in-Some-clause-performs : goal.returns-in-Some-clause-performs

@@ -6,7 +6,7 @@ use Rattle.zw_def_world.specs.IntegerRows.{over, rest, if_divides, makes_quotien
 use Rattle.zw_def_world.specs.Making.{makes_array}
 use Rattle.zw_def_world.specs.Value as told
 use Rattle.zw_prims.proofs.IntegerLemmas.{quotients-are}
-use Rattle.zw_prims.proofs.PerformLemmas.{all_same}
+use Rattle.zw_calls.proofs.PerformLemmas.{all_same}
 use Rattle.zw_prims.proofs.integer.quotients.Goals as goal
 
 pub returns-clause-performs : goal.returns-clause-performs

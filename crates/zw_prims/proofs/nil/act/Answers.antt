@@ -3,8 +3,8 @@ use Rattle.zw_def_world.specs.IntegerRows.{nil_act}
 use Rattle.zw_def_world.specs.Making.{makes_array}
 use Rattle.zw_def_world.specs.Value as told
 use Rattle.zw_heap.specs.Telling.{tell}
-use Rattle.zw_prims.specs.NilRow.{nil_row_seen}
-use Rattle.zw_prims.proofs.PerformLemmas.{all_same}
+use Rattle.zw_calls.specs.NilRow.{nil_row_seen}
+use Rattle.zw_calls.proofs.PerformLemmas.{all_same}
 use Rattle.zw_prims.proofs.nil.act.Goals as goal
 
 pub returns-in-ToA-clause-performs : goal.returns-in-ToA-clause-performs

@@ -3,8 +3,8 @@ use Rattle.zw_def_world.specs.Argument.{nil_arguments}
 use Rattle.zw_def_world.specs.IntegerRows.{nil_act}
 use Rattle.zw_heap.specs.Telling.{tell}
 use Rattle.zw_heap.specs.declared.value.Value.TheVariants as v
-use Rattle.zw_prims.specs.NilRow.{nil_row_seen}
-use Rattle.zw_prims.proofs.CallLemmas.{refused, passed}
+use Rattle.zw_calls.specs.NilRow.{nil_row_seen}
+use Rattle.zw_calls.proofs.CallLemmas.{refused, passed}
 use Rattle.zw_prims.proofs.nil.apply.Goals as goal
 
 pub returns-in-Some-clause-performs : goal.returns-in-Some-clause-performs

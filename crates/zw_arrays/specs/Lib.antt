@@ -1,0 +1,4 @@
+pub mod Item
+pub mod Answer
+pub mod Sum
+pub mod Joined

@@ -1,0 +1,11 @@
+pub mod TextLemmas
+pub mod CutLemmas
+pub mod PieceLemmas
+pub mod NamingLemmas
+pub mod WorkLemmas
+pub mod SpaceLemmas
+pub mod DigitLemmas
+pub mod PaddingLemmas
+pub mod CharacterLemmas
+pub mod CaseLemmas
+pub mod PartLemmas

@@ -1,0 +1,20 @@
+use Rattle.std.proofs.Common.{◌≡◌, ◌+◌, ◌*◌, true, get_or, drop, ap, sym, ◌∙◌, arith, rules}
+use Rattle.std.specs.Char.{digit_value}
+use Rattle.std.proofs.lemmas.Str.{digit_value_digit}
+use Rattle.zw_def.specs.Text.{is_digit}
+use Rattle.zw_def_world.specs.StringRows.{digits_before}
+use Rattle.zw_strings.proofs.DigitLemmas.{number_after, digit_there}
+use Rattle.zw_strings.proofs.digits.digits_before.Goals as goal
+
+pub loop-byte-preserved : goal.loop-byte-preserved
+loop-byte-preserved c =
+    let t = c.args.text.now in
+    let i = c.loop-byte.byte-index in
+    let n = c.loop-byte.number in
+    let b = get_or t i 0 in
+    let digit : is_digit b ≡ true = sym c.is_ascii_digit.ensures.value ∙ c.if-not-is_ascii_digit.false in
+    let value : c.in_ok-number.number ≡ n * 10 + digit_value b = search rules in
+    record {
+      small = c.in_ok-number.ensures.0;
+      told = ap (λ m. number_after m (drop (i + 1) t)) value ∙ digit_there t i n (digits_before t) c.loop-byte-test.true digit c.loop-byte.invariant.told;
+    }
