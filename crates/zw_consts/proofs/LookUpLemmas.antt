@@ -21,11 +21,12 @@ use Rattle.zw_consts.specs.Ancestor.{numbers_of, is_among, ancestors_of}
 use Rattle.zw_consts.specs.LookUp.{without, is_class_in, asked_last, asked_from, unscoped_modules, scoped_modules}
 use Rattle.zw_consts.proofs.ListLemmas.{record_at, among_first, among_later, among_cons}
 use Rattle.zw_consts.proofs.ClassLemmas.{All-numbered}
-use Rattle.zw_consts.proofs.ToldLemmas.{id_eq-told, ancestors-told}
+use Rattle.zw_told.proofs.NameLemmas.{module_told}
+use Rattle.zw_consts.proofs.ToldLemmas.{ancestors-told}
 
 module _ (I : Telling) where
   test-told : (i : Id) (m n : ℕ) → I.module_id m ≡ i → told.is_other_than i (I.module_id n) ≡ not (nat_eq m n)
-  test-told i m n is = ap (λ j. not (id_eq j (I.module_id n))) (sym is) ∙ ap not (id_eq-told I m n)
+  test-told i m n is = ap (λ j. not (id_eq j (I.module_id n))) (sym is) ∙ ap not (module_told I m n)
 
   without-told : (i : Id) (m : ℕ) (ns : List ℕ) → I.module_id m ≡ i → filter (told.is_other_than i) (map I.module_id ns) ≡ map I.module_id (without m ns)
   without-told i m [] is = refl
@@ -71,7 +72,7 @@ module _ (I : Telling) where
         ∙ ap Some ((λ k. cond (test k) (map I.module_id (ancestors_of h.modules n)) (below-told (ancestors_of h.modules n) object kernel k)) ∙ by (nat_eq n 0))
       where
         test : id_eq (I.module_id n) Object_class ≡ nat_eq n 0
-        test = ap (id_eq (I.module_id n)) (sym object) ∙ id_eq-told I n 0
+        test = ap (id_eq (I.module_id n)) (sym object) ∙ module_told I n 0
 
         by : (b : Bool) → cond b (map I.module_id (ancestors_of h.modules n)) (map I.module_id (without 1 (without 0 (ancestors_of h.modules n)))) ≡ map I.module_id (cond b (ancestors_of h.modules n) (without 1 (without 0 (ancestors_of h.modules n))))
         by true = refl

@@ -2,14 +2,9 @@
 use Rattle.std.proofs.Common.{◌≡◌, ◌||◌, ◌&&◌, ◌==◌, Bool, true, false, ℕ, zero, suc, ◌<◌, ◌≤◌, ◌^◌, List, [], ◌∷◌, ◌++◌, cond, length, map, slice_get, Option, Some, None, nat_eq, refl, ap, sym, ◌∙◌, arith, Decides}
 use Rattle.std.specs.List.{flat_map}
 use Rattle.std.specs.Option.{option_map, option_map_or}
-use Rattle.std.proofs.lemmas.Bool.{eqb-true, eq-eqb}
 use Rattle.std.proofs.lemmas.List.{map-append}
-use Rattle.std.proofs.lemmas.Slice.Eq.{bytes_eq-Decides}
-use Rattle.std.specs.Cmp.Lexicographic.{pointwise_decides}
-use Rattle.zw_def.specs.ConstantPath.{ConstantPath}
-use Rattle.zw_def.specs.Nesting.{same_names}
 use Rattle.zw_def_world.specs.Missing.{bind, joined}
-use Rattle.zw_def_world.specs.Id.{Id, id_eq, same_load}
+use Rattle.zw_def_world.specs.Id.{Id}
 use Rattle.zw_def_world.specs.Record as told
 use Rattle.zw_def_world.specs.World.{World}
 use Rattle.zw_def_world.specs.Ancestor as told_line
@@ -24,50 +19,11 @@ use Rattle.zw_heap.specs.Superclass.{superclass_in, superclass_at}
 use Rattle.zw_heap.specs.Telling.{Telling, told_ids, told_superclass, TellsModule, Agrees}
 use Rattle.zw_heap.specs.Sound.{IsSound}
 use Rattle.zw_consts.specs.Ancestor.{numbers_of, includes_at, is_among, listed_with, above_of, ancestors_by, ancestors_within, ancestors_of, superclasses_within, superclasses_of}
-use Rattle.zw_consts.proofs.ListLemmas.{same_answer, record_at, among_first, among_later}
+use Rattle.zw_told.proofs.NameLemmas.{is_among-told}
+use Rattle.zw_consts.proofs.ListLemmas.{record_at, among_first, among_later}
 use Rattle.zw_consts.proofs.HeightLemmas.{included_way, superclass_way, climb}
 
--- ---- names are equal where their parts are
-
-same_names-Decides : (p q : ConstantPath) → Decides (same_names p q) (p ≡ q)
-same_names-Decides = pointwise_decides bytes_eq-Decides
-
-both : (a b : Bool) → (a && b) ≡ true → (a ≡ true) × (b ≡ true)
-both true b e = (refl, e)
-both false b e = absurd (cc)
-
-same_load-same : (a b : Option ConstantPath) → same_load a b ≡ true → a ≡ b
-same_load-same None None e = refl
-same_load-same None (Some q) e = absurd (cc)
-same_load-same (Some p) None e = absurd (cc)
-same_load-same (Some p) (Some q) e = ap Some ((same_names-Decides p q).0 e)
-
-same_load-self : (a : Option ConstantPath) → same_load a a ≡ true
-same_load-self None = refl
-same_load-self (Some p) = (same_names-Decides p p).1 refl
-
-id_eq-same : (i j : Id) → id_eq i j ≡ true → i ≡ j
-id_eq-same i j e =
-    let outer = both (i.count == j.count && i.setup == j.setup) (same_load i.load j.load) e in
-    let inner = both (i.count == j.count) (i.setup == j.setup) outer.0 in
-    let count = eqb-true i.count j.count inner.0 in
-    let setup = eqb-true i.setup j.setup inner.1 in
-    let load = same_load-same i.load j.load outer.1 in
-    λ k. record { setup = setup k; load = load k; count = count k }
-
-id_eq-self : (i : Id) → id_eq i i ≡ true
-id_eq-self i = λ k. eq-eqb i.count i.count refl k && eq-eqb i.setup i.setup refl k && same_load-self i.load k
-
-pub id_eq-told : (I : Telling) (n m : ℕ) → id_eq (I.module_id n) (I.module_id m) ≡ nat_eq n m
-id_eq-told I n m = same_answer (id_eq (I.module_id n) (I.module_id m)) (nat_eq n m)
-    (λ e. eq-eqb n m (I.modules_differ n m (id_eq-same (I.module_id n) (I.module_id m) e)))
-    (λ e. ap (λ k. id_eq (I.module_id n) (I.module_id k)) (sym (eqb-true n m e)) ∙ id_eq-self (I.module_id n))
-
 module _ (I : Telling) where
-  pub is_among-told : (ns : List ℕ) (n : ℕ) → told_line.is_among (map I.module_id ns) (I.module_id n) ≡ is_among ns n
-  is_among-told [] n = refl
-  is_among-told (m ∷ ns) n = (λ i. id_eq-told I n m i || is_among-told ns n i)
-
   listed_with-told : (above listed ns : List ℕ) → told_line.listed_with (map I.module_id above) (map I.module_id listed) (map I.module_id ns) ≡ map I.module_id (listed_with above listed ns)
   listed_with-told above listed [] = refl
   listed_with-told above listed (n ∷ ns) =
@@ -79,7 +35,7 @@ module _ (I : Telling) where
 
       one : cond (told_line.is_among (map I.module_id listed) (I.module_id n) || told_line.is_among (map I.module_id above) (I.module_id n)) (map I.module_id listed) (map I.module_id listed ++ I.module_id n ∷ [])
           ≡ map I.module_id (cond (is_among listed n || is_among above n) listed (listed ++ n ∷ []))
-      one = (λ i. cond (is_among-told listed n i || is_among-told above n i) (map I.module_id listed) (map I.module_id listed ++ I.module_id n ∷ [])) ∙ push (is_among listed n || is_among above n)
+      one = (λ i. cond (is_among-told I.module_id I.modules_differ listed n i || is_among-told I.module_id I.modules_differ above n i) (map I.module_id listed) (map I.module_id listed ++ I.module_id n ∷ [])) ∙ push (is_among listed n || is_among above n)
 
   -- ---- one step, where all above is told
 
