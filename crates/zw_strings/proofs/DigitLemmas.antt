@@ -49,3 +49,10 @@ digit_there t i n all lt digit told =
 pub no_digit_there : (t : Text) (i n all : ℕ) → i < length t → is_digit (get_or t i 0) ≡ false → number_after n (drop i t) ≡ all → n ≡ all
 no_digit_there t i n all lt other told =
     sym (ap (number_after n) (drop-at t i (i + 1) 0 lt (omega arith)) ∙ no-digits n (get_or t i 0) (drop (i + 1) t) other) ∙ told
+
+-- or makes it too high
+pub digits_past : (most : ℕ) (t : Text) (i n all : ℕ) → i < length t → is_digit (get_or t i 0) ≡ true → number_after n (drop i t) ≡ all → (n * 10 + digit_value (get_or t i 0) < most → ⊥) → all < most → ⊥
+digits_past most t i n all lt digit told high small =
+    let more = n * 10 + digit_value (get_or t i 0) in
+    let rest = take_while is_digit (drop (i + 1) t) in
+    high (omega (arith, small, digit_there t i n all lt digit told, no_less more rest))
