@@ -32,7 +32,7 @@ returns-then-not-tick-clause-pays c =
     let t = string_bytes item in
     let left = c.loop-text.meter.left in
     let within : i < length (map string_bytes all) = omega (arith, c.loop-text-test.true, length-map all string_bytes) in
-    let same : c.len-in-loop-text.result ≡ length t = c.len-in-loop-text.ensures in
+    let same : c.len-in-loop-text.result ≡ length t = omega (arith, c.len-in-loop-text.ensures) in
     let few : length t ≤ max_text = omega (arith, c.if-len-gt-MAX_TEXT.false, c.len.ensures) in
     let less : left < length t / 64 = subst (λ n. left < n / 64) same (unpaid_less (c.len-in-loop-text.result / 64) left c.if-not-tick.ensures.answer.1) in
     (
@@ -51,7 +51,7 @@ loop-text-preserved c =
     let t = string_bytes item in
     let left = c.loop-text.meter.left in
     let within : i < length (map string_bytes all) = omega (arith, c.loop-text-test.true, length-map all string_bytes) in
-    let same : c.len-in-loop-text.result ≡ length t = c.len-in-loop-text.ensures in
+    let same : c.len-in-loop-text.result ≡ length t = omega (arith, c.len-in-loop-text.ensures) in
     let few : length t ≤ max_text = omega (arith, c.if-len-gt-MAX_TEXT.false, c.len.ensures) in
     let enough : length t / 64 ≤ left = subst (λ n. n / 64 ≤ left) same (c.if-not-tick.ensures.answer.0 refl) in
     let later : left - length t / 64 ≡ c.tick.new.self.left = sym (c.if-not-tick.ensures.left ∙ ap (λ n. left - n / 64) same) in
