@@ -1,8 +1,9 @@
 -- The number that the digits at the begin of a text write.
-use Rattle.std.proofs.Common.{◌≡◌, ◌+◌, ◌-◌, ◌*◌, ◌<◌, ◌≤◌, ◌^◌, ℕ, zero, suc, ℤ, pos, neg_ℤ, true, false, List, [], ◌∷◌, length, get_or, take, drop, take_while, cond, FitsSigned, refl, sym, ap, ◌∙◌, arith}
+use Rattle.std.proofs.Common.{◌≡◌, ◌+◌, ◌-◌, ◌*◌, ◌<◌, ◌≤◌, ◌^◌, ℕ, zero, suc, ℤ, pos, neg_ℤ, true, false, List, [], ◌∷◌, length, get_or, take, drop, take_while, cond, FitsSigned, Option, None, refl, sym, ap, subst, ◌∙◌, arith}
 use Rattle.zw_lemmas.proofs.ListLemmas.{drop-at}
 use Rattle.std.specs.Int.{w64}
 use Rattle.std.specs.List.{prefix_len}
+use Rattle.std.specs.Option.{SomeIff}
 use Rattle.std.specs.Str.Parse.{digits_value_after}
 use Rattle.std.specs.Char.{digit_value}
 use Rattle.zw_def.specs.Text.{Text, is_digit}
@@ -49,3 +50,13 @@ digit_there t i n all lt digit told =
 pub no_digit_there : (t : Text) (i n all : ℕ) → i < length t → is_digit (get_or t i 0) ≡ false → number_after n (drop i t) ≡ all → n ≡ all
 no_digit_there t i n all lt other told =
     sym (ap (number_after n) (drop-at t i (i + 1) 0 lt (omega arith)) ∙ no-digits n (get_or t i 0) (drop (i + 1) t) other) ∙ told
+
+-- or makes it too high
+pub digits_past : (most : ℕ) (t : Text) (i n all : ℕ) → i < length t → is_digit (get_or t i 0) ≡ true → number_after n (drop i t) ≡ all → (n * 10 + digit_value (get_or t i 0) < most → ⊥) → all < most → ⊥
+digits_past most t i n all lt digit told high small =
+    let more = n * 10 + digit_value (get_or t i 0) in
+    let rest = take_while is_digit (drop (i + 1) t) in
+    high (omega (arith, small, digit_there t i n all lt digit told, no_less more rest))
+
+pub nothing-fits : (o : Option ℕ) (P : Type 0) (n : ℕ) → o ≡ None → (P → ⊥) → SomeIff o P n
+nothing-fits o P n is high = subst (λ r. SomeIff r P n) (sym is) high
