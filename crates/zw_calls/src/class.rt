@@ -46,7 +46,7 @@ fn class_name(
 }
 
 /// The fault of a message that would be longer than a text may be.
-fn too_long(alloc: Global) -> Result<Raise, AllocError>
+pub fn too_long(alloc: Global) -> Result<Raise, AllocError>
     ensures { IfOk result (λ raise. fault_seen raise ≡ too_long) }
 {
     fault(alloc, ErrorKind::RangeError, "text too long")

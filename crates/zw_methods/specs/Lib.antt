@@ -1,3 +1,4 @@
 pub mod Methods
 pub mod Change
 pub mod Line
+pub mod Telling

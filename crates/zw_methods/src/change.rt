@@ -15,7 +15,7 @@ use zw_consts::{ancestors, ancestors_are_reached};
 use zw_heap::{Heap, HeapFault, ModuleId};
 
 /// Whether a module is one of several.
-fn is_one_of(modules: &[ModuleId], one: ModuleId) -> bool
+pub fn is_one_of(modules: &[ModuleId], one: ModuleId) -> bool
     ensures { result ≡ is_among (numbers_of modules.now) one.0 }
 {
     for module in modules {

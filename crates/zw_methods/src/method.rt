@@ -1,6 +1,7 @@
 //! Methods, and the places in which they are looked for.
 
-use zw_heap::{ModuleId, PrimId};
+use zw_calls::PrimId;
+use zw_heap::ModuleId;
 use zw_names::Name;
 
 /// The body of a method that a program defines, by its number where such bodies are kept.
