@@ -1,5 +1,5 @@
 -- Texts that are made in a heap, and then their array.
-use Rattle.std.proofs.Common.{◌≡◌, ◌<◌, ◌≤◌, ◌+◌, ◌-◌, ℕ, suc, false, true, List, [], ◌∷◌, ◌++◌, length, map, take, get_or, string_bytes, String, Global, Option, Some, None, ◌⊎◌, inl, inr, refl, sym, ap, subst, ◌∙◌, take-suc, arith}
+use Rattle.std.proofs.Common.{◌≡◌, ◌<◌, ◌≤◌, ◌+◌, ◌-◌, ℕ, suc, false, true, List, [], ◌∷◌, ◌++◌, length, map, take, get_or, string_bytes, String, Global, Option, Some, None, ◌⊎◌, inl, inr, sym, ap, subst, ◌∙◌, take-suc, arith}
 use Rattle.std.specs.List.{All}
 use Rattle.std.proofs.lemmas.Bool.{cases_lt}
 use Rattle.std.proofs.lemmas.List.{get_or-map, map-append}
@@ -10,7 +10,7 @@ use Rattle.zw_def_world.specs.Making.{max_items, max_text}
 use Rattle.zw_def_world.specs.StringRows.{makes_pieces}
 use Rattle.zw_def_world.specs.Value as told
 use Rattle.zw_heap.specs.Heap.{Held, sizes_of}
-use Rattle.zw_heap.specs.Sound.{IsIn, Stays}
+use Rattle.zw_heap.specs.Sound.{IsIn}
 use Rattle.zw_heap.specs.Telling.{Telling, Fits, OnlyAdds, tell}
 use Rattle.zw_heap.specs.declared.value.Value.{Value}
 use Rattle.zw_calls.specs.End.{Performs}

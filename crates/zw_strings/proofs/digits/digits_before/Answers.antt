@@ -1,6 +1,5 @@
 use Rattle.std.proofs.Common.{◌≡◌, ◌+◌, ◌*◌, true, None, get_or, drop, ap, sym, ◌∙◌, arith, rules}
 use Rattle.std.specs.Char.{digit_value}
-use Rattle.std.proofs.lemmas.Str.{digit_value_digit}
 use Rattle.zw_def.specs.Text.{is_digit}
 use Rattle.zw_def_world.specs.StringRows.{digits_before}
 use Rattle.zw_strings.proofs.DigitLemmas.{number_after, digit_there, digits_past, nothing-fits}

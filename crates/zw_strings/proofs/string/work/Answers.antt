@@ -1,17 +1,16 @@
-use Rattle.std.proofs.Common.{[], ◌++◌, length, chars, map, pos, not, reverse, Ok, ap, sym, ◌∙◌, refl, FitsSigned, rules, encode_utf8}
+use Rattle.std.proofs.Common.{length, chars, map, pos, not, Ok, ap, sym, ◌∙◌, refl, FitsSigned, rules}
 use Rattle.std.specs.Int.{w64}
 use Rattle.std.proofs.lemmas.Int.{to_z-of_z}
-use Rattle.zw_def.specs.Constant.{raised, lowered, capitalized}
 use Rattle.zw_def_world.specs.Act.{gives}
-use Rattle.zw_def_world.specs.Making.{makes_text, makes_integer}
+use Rattle.zw_def_world.specs.Making.{makes_integer}
 use Rattle.zw_def_world.specs.Site.{yes_or_no}
-use Rattle.zw_def_world.specs.StringRows.{precedes, holds, begins_with, ends_with, makes_pieces, times, padding, justified_left, justified_right, number_of, of_characters, part_at, splits, stripped, without_prefix, without_suffix}
+use Rattle.zw_def_world.specs.StringRows.{precedes, holds, begins_with, ends_with, times, padding, justified_left, justified_right, number_of, part_at, splits}
 use Rattle.zw_def_world.specs.Value as told
 use Rattle.zw_heap.specs.Telling.{tell}
 use Rattle.zw_calls.specs.declared.end.PrimEnd.TheVariants as e
 use Rattle.zw_calls.specs.declared.string_row.StringRow.TheVariants as r
 use Rattle.zw_strings.specs.declared.work.Work.TheVariants as w
-use Rattle.zw_strings.proofs.WorkLemmas.{arm, text_left, texts_left, symbol_left, ended_left}
+use Rattle.zw_strings.proofs.WorkLemmas.{arm, ended_left}
 use Rattle.zw_strings.proofs.string.work.Goals as goal
 
 pub returns-in-Times : goal.returns-in-Times

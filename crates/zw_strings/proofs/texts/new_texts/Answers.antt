@@ -1,4 +1,4 @@
-use Rattle.std.proofs.Common.{◌∷◌, [], map, length, string_bytes, length-append, sym, ap, ◌∙◌, arith}
+use Rattle.std.proofs.Common.{◌∷◌, [], map, length, string_bytes, length-append, ap, ◌∙◌, arith}
 use Rattle.std.proofs.lemmas.List.{length-map}
 use Rattle.zw_heap.specs.Heap.{sizes_of}
 use Rattle.zw_heap.specs.Sound.{IsIn}

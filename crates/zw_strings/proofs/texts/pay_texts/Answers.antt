@@ -1,10 +1,10 @@
-use Rattle.std.proofs.Common.{◌≡◌, ◌+◌, ◌≤◌, ◌<◌, ◌/◌, ◌-◌, map, length, get_or, string_bytes, refl, sym, ap, subst, ◌∙◌, arith, rules}
+use Rattle.std.proofs.Common.{◌≡◌, ◌+◌, ◌≤◌, ◌<◌, ◌/◌, ◌-◌, map, length, string_bytes, refl, sym, ap, subst, ◌∙◌, arith}
 use Rattle.std.proofs.lemmas.List.{length-map}
 use Rattle.zw_def_world.specs.Act.{Act, ends, lost, out_of_steps}
 use Rattle.zw_def_world.specs.Making.{max_text}
 use Rattle.zw_calls.specs.End.{end_seen}
 use Rattle.zw_strings.proofs.MadeLemmas.{text-at, unpaid_less}
-use Rattle.zw_strings.proofs.PieceLemmas.{PaidFor, all_paid, ends_long, ends_unpaid, none_paid, one_more_paid}
+use Rattle.zw_strings.proofs.PieceLemmas.{PaidFor, all_paid, ends_long, ends_unpaid, one_more_paid}
 use Rattle.zw_strings.proofs.texts.pay_texts.Goals as goal
 
 pub returns-then-len-gt-MAX_TEXT-clause-pays : goal.returns-then-len-gt-MAX_TEXT-clause-pays
