@@ -19,7 +19,7 @@ use crate::array_read::{at, first, held_at, includes, index, is_empty, last, siz
 use crate::array_sum::sum;
 use std::alloc::{AllocError, Global};
 use zw_calls::argument::Arguments;
-use zw_calls::array_row::ArrayRow;
+use zw_calls::ArrayRow;
 use zw_calls::end::PrimEnd;
 use zw_calls::kind::Kind;
 use zw_calls::reading::integer_at;
