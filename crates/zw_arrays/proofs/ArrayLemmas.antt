@@ -96,7 +96,7 @@ All-kept P true xs x all one = all
 All-kept P false xs x all one = All-push P xs x all one
 
 -- the next item is compared with those that are kept, or with others
-module _ (I : Telling) (xs kept : List Value) (i : ℕ) (x : Value) (lt : i < length xs) (at : x ≡ get_or xs i x) (p : Point) (later : ℕ) (answer : Option Bool) where
+module _ (I : Telling) (xs kept : List Value) (i : ℕ) (x : Value) (lt : i < length xs) (at : x ≡ get_or xs i v.Nil) (p : Point) (later : ℕ) (answer : Option Bool) where
   pub uniques-step : among (tell I x) (map (tell I) kept) p ≡ answer_seen answer (record p { left = later }) → uniques (map (tell I) kept) (map (tell I) (drop i xs)) p ≡ continued (go_on (λ found. uniques (kept_unless (tell I x) (map (tell I) kept) found) (map (tell I) (drop (i + 1) xs)))) (answer_seen answer (record p { left = later }))
   uniques-step ends =
       ap (λ ys. uniques (map (tell I) kept) (map (tell I) ys) p) (drop-read xs i x lt at)

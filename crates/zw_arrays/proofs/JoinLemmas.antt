@@ -13,6 +13,7 @@ use Rattle.zw_def_world.specs.Value as told
 use Rattle.zw_def_world.specs.World.{World}
 use Rattle.zw_heap.specs.Telling.{Telling, tell}
 use Rattle.zw_heap.specs.declared.value.Value.{Value}
+use Rattle.zw_heap.specs.declared.value.Value.TheVariants as v
 use Rattle.zw_arrays.specs.Joined.{separated}
 use Rattle.zw_arrays.proofs.BuiltInLemmas.{IsThere}
 use Rattle.zw_arrays.proofs.EqualityLemmas.{drop-read}
@@ -71,7 +72,7 @@ behind-start None = refl
 behind-start (Some t) = refl
 
 -- the next item is joined behind the text so far
-module _ (w : World) (separator : Text) (I : Telling) (xs : List Value) (i : ℕ) (x : Value) (lt : i < length xs) (at : x ≡ get_or xs i x) (front written later t : Text) (separates : written ≡ front ++ separated separator i) (writes : later ≡ written ++ t) (is : built_in w (tell I x) ≡ Some t) where
+module _ (w : World) (separator : Text) (I : Telling) (xs : List Value) (i : ℕ) (x : Value) (lt : i < length xs) (at : x ≡ get_or xs i v.Nil) (front written later t : Text) (separates : written ≡ front ++ separated separator i) (writes : later ≡ written ++ t) (is : built_in w (tell I x) ≡ Some t) where
   pub behind-next : joined_behind w separator front i (map (tell I) (drop i xs)) ≡ joined_behind w separator later (i + 1) (map (tell I) (drop (i + 1) xs))
   behind-next =
       let next : i + 1 ≡ suc i = omega arith in
