@@ -40,11 +40,11 @@ ends_as I one other p (e.Raise r) done = refl
 ends_as I one other p e.Budget done = refl
 ends_as I one other p (e.Again prim) done = absurd done
 
-module _ (g : Held) (names : List Text) (left middle later : ℕ) (act one : Telling → Act) (goes : (I : Telling) (p : Point) → Fits I names g → p.left ≡ left → act I p ≡ one I (record p { left = middle })) where
+module _ (g : Held) (names : List Text) (left middle later : ℕ) (act one : Telling → Act) (goes : (I : Telling) (p : Point) → Fits I names g → Agrees I g p.world → p.left ≡ left → act I p ≡ one I (record p { left = middle })) where
   pub goes_on : (end : PrimEnd) → Performs (λ s I. one I) g names middle later end → Performs (λ s I. act I) g names left later end
   goes_on end performs = record {
     told = λ s I p fit agrees e.
-        goes I p fit e ∙ performs.told s I (record p { left = middle }) fit (record { modules = agrees.modules; objects = agrees.objects }) refl
+        goes I p fit agrees e ∙ performs.told s I (record p { left = middle }) fit (record { modules = agrees.modules; objects = agrees.objects }) refl
         ∙ ends_as I (one I) (act I) (record p { left = later }) end performs.done;
     held = performs.held;
     done = performs.done;
@@ -57,8 +57,8 @@ module _ (g : Held) (names : List Text) (left middle later : ℕ) (act one : Tel
 -- ---- an act that is another one by each telling that fits
 
 module _ (g : Held) (names : List Text) (left later : ℕ) (act one : Telling → Act) (same : (I : Telling) → Fits I names g → act I ≡ one I) where
-  goes : (I : Telling) (p : Point) → Fits I names g → p.left ≡ left → act I p ≡ one I (record p { left = left })
-  goes I p fit e = ap (λ (a : Act). a p) (same I fit) ∙ ap (λ n. one I (record p { left = n })) e
+  goes : (I : Telling) (p : Point) → Fits I names g → Agrees I g p.world → p.left ≡ left → act I p ≡ one I (record p { left = left })
+  goes I p fit agrees e = ap (λ (a : Act). a p) (same I fit) ∙ ap (λ n. one I (record p { left = n })) e
 
   pub fitting : (end : PrimEnd) → Performs (λ s I. one I) g names left later end → Performs (λ s I. act I) g names left later end
   fitting end performs = goes_on g names left left later act one goes end performs
@@ -159,6 +159,17 @@ counted-down k (pos n) low = absurd (omega (arith, ints))
 counted-down k (negsuc n) low = refl
 
 -- ---- nil is left out
+
+pub some-is : (I : Telling) (x : Value) → (x ≡ v.Nil → ⊥) → is_some_value (tell I x) ≡ true
+some-is I v.Nil other = absurd (other refl)
+some-is I v.True other = refl
+some-is I v.False other = refl
+some-is I (v.Int z) other = refl
+some-is I (v.Text t) other = refl
+some-is I (v.Sym n) other = refl
+some-is I (v.Array a) other = refl
+some-is I (v.Object o) other = refl
+some-is I (v.Module m) other = refl
 
 pub some-kept : (I : Telling) (x : Value) (b : Bool) (vs : List told.Value) → is_some_value (tell I x) ≡ not b → filter is_some_value (tell I x ∷ vs) ≡ cond b (filter is_some_value vs) (tell I x ∷ filter is_some_value vs)
 some-kept I x true vs is = ap (λ a. cond a (tell I x ∷ filter is_some_value vs) (filter is_some_value vs)) is
