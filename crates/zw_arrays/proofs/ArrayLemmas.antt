@@ -2,6 +2,7 @@
 use Rattle.std.proofs.Common.{◌≡◌, ℕ, ◌+◌, ◌-◌, ◌<◌, ◌≤◌, Bool, true, false, nat_lt, ℤ, pos, negsuc, ◌<ℤ◌, unsigned_abs, zero, suc, List, [], ◌∷◌, ◌++◌, length, map, take, drop, filter, get_or, reverse, min, not, codes, Option, Some, None, slice_get, Result, Ok, Err, IfOk, refl, sym, ap, subst, cond, ◌∙◌, arith}
 use Rattle.std.proofs.lemmas.Bool.{le-ltb, lt-ltb}
 use Rattle.std.proofs.lemmas.Int.{ints}
+use Rattle.std.specs.Int.{FitsUnsignedBits}
 use Rattle.std.specs.List.{All}
 use Rattle.std.proofs.lemmas.List.{length-map, map-append, append_assoc, take-map, take_min, drop_min}
 use Rattle.zw_lemmas.proofs.ListLemmas.{reverse-map}
@@ -150,6 +151,10 @@ module _ {A B : Type 0} (f : A → B) where
     dropped-is n all is = ap (drop n) items ∙ drop-map n xs ∙ ap (map f) (sym (drop_min n xs) ∙ sym is)
 
 -- ---- counts
+
+pub counted-is : (z : ℤ) (n : ℕ) → FitsUnsignedBits 64 z → n ≡ unsigned_abs z → z ≡ pos n
+counted-is (pos m) n fits is = ap pos (sym is)
+counted-is (negsuc m) n fits is = absurd fits
 
 pub counted-up : (k : ℕ → Act) (z : ℤ) (n : ℕ) → z ≡ pos n → counted k z ≡ k n
 counted-up k z n e = ap (counted k) e

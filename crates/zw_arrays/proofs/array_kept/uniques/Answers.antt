@@ -3,7 +3,7 @@ use Rattle.std.specs.List.{All}
 use Rattle.std.proofs.Math.ListN.{drop_of_length-le}
 use Rattle.zw_def_world.specs.Act.{continued, go_on}
 use Rattle.zw_def_world.specs.ArrayRows.{uniques, kept_unless}
-use Rattle.zw_def_world.specs.Value.{truth}
+use Rattle.zw_def_world.specs.Equality.{among}
 use Rattle.zw_heap.specs.Telling.{tell}
 use Rattle.zw_heap.specs.declared.value.Value.TheVariants as v
 use Rattle.zw_arrays.specs.Answer.{answer_seen}
@@ -20,7 +20,7 @@ returns-in_default-clause-told c = λ I names p fit e.
     let q = record p { left = c.loop-item.meter.left } in
     let later = c.is_among.new.meter.left in
     c.loop-item.invariant.told I names p fit e
-    ∙ uniques-step I xs kept i x c.loop-item-test.true refl q later c.is_among.result (c.is_among.ensures.told I names q fit refl)
+    ∙ uniques-step I xs kept i x c.loop-item-test.true refl q later c.is_among.result (ap (λ ks. among (tell I x) (map (tell I) ks) q) (sym c.as_slice.ensures.value) ∙ c.is_among.ensures.told I names q fit refl)
     ∙ ap (λ a. continued (go_on (λ found. uniques (kept_unless (tell I x) (map (tell I) kept) found) (map (tell I) (drop (i + 1) xs)))) (answer_seen a (record p { left = later }))) c.in_default.is
 
 pub loop-item-preserved : goal.loop-item-preserved
@@ -38,7 +38,7 @@ loop-item-preserved c =
       told = λ I names p fit e.
           let q = record p { left = c.loop-item.meter.left } in
           c.loop-item.invariant.told I names p fit e
-          ∙ uniques-step I xs kept i x c.loop-item-test.true refl q later c.is_among.result (c.is_among.ensures.told I names q fit refl)
+          ∙ uniques-step I xs kept i x c.loop-item-test.true refl q later c.is_among.result (ap (λ ks. among (tell I x) (map (tell I) ks) q) (sym c.as_slice.ensures.value) ∙ c.is_among.ensures.told I names q fit refl)
           ∙ ap (λ a. continued (go_on (λ found. uniques (kept_unless (tell I x) (map (tell I) kept) found) (map (tell I) (drop (i + 1) xs)))) (answer_seen a (record p { left = later }))) c.in-Some.is
           ∙ ap (λ ks. uniques ks (map (tell I) (drop (i + 1) xs)) (record p { left = later })) (sym (map-kept (tell I) found kept x) ∙ ap (map (tell I)) (sym c.in_ok-keep_unless.ensures));
     }

@@ -3,7 +3,6 @@ use Rattle.std.specs.List.{All}
 use Rattle.std.proofs.Math.ListN.{drop_of_length-le}
 use Rattle.zw_def_world.specs.Act.{continued, go_on}
 use Rattle.zw_def_world.specs.ArrayRows.{without_items, kept_unless}
-use Rattle.zw_def_world.specs.Value.{truth}
 use Rattle.zw_heap.specs.Telling.{tell}
 use Rattle.zw_heap.specs.declared.value.Value.TheVariants as v
 use Rattle.zw_arrays.specs.Answer.{answer_seen}

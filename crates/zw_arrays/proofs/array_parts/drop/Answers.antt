@@ -1,11 +1,13 @@
-use Rattle.std.proofs.Common.{◌≡◌, ◌-◌, ◌≤◌, ℕ, pos, length, map, min, drop, ap, ◌∙◌, arith}
+use Rattle.std.proofs.Common.{◌≡◌, ◌-◌, ◌≤◌, ℕ, FitsSigned, pos, length, map, min, drop, ap, ◌∙◌, arith}
 use Rattle.std.proofs.lemmas.List.{take_all, length-drop}
+use Rattle.std.specs.Int.{w64}
+use Rattle.std.proofs.lemmas.Int.{to_z-of_z}
 use Rattle.zw_def_world.specs.IntegerRows.{counted}
 use Rattle.zw_def_world.specs.Making.{makes_array}
 use Rattle.zw_def_world.specs.Value.{items_in}
 use Rattle.zw_heap.specs.Telling.{tell}
 use Rattle.zw_heap.specs.declared.value.Value.TheVariants as v
-use Rattle.zw_arrays.proofs.ArrayLemmas.{all_fitting, counted-up, dropped-is}
+use Rattle.zw_arrays.proofs.ArrayLemmas.{all_fitting, counted-is, counted-up, dropped-is}
 use Rattle.zw_arrays.proofs.array_parts.drop.Goals as goal
 
 pub returns-clause-performs : goal.returns-clause-performs
@@ -14,11 +16,14 @@ returns-clause-performs c = λ names.
     let made = c.as_slice.result.now in
     let xs = c.items-items.result.now in
     let n = c.in-Ok.count in
-    let tried = c.in-Ok.ensures in
-    let least = c.min.ensures in
-    let rest = c.in_ok-rest.ensures.items in
-    let is : c.args.count ≡ pos n = ? in
-    let all : made ≡ drop (min n (length xs)) xs = ? in
+    let fits : FitsSigned w64 c.args.count = c.ranges.count in
+    let tried = simp to_z-of_z at c.in-Ok.ensures in
+    let is : c.args.count ≡ pos n = counted-is c.args.count n tried.0 tried.1 in
+    let all : made ≡ drop (min n (length xs)) xs =
+        c.as_slice.ensures.value ∙ c.in_ok-rest.ensures.items
+        ∙ take_all (length xs - c.min.result) (drop c.min.result xs) (omega (arith, length-drop c.min.result xs))
+        ∙ ap (λ m. drop m xs) c.min.ensures
+    in
     all_fitting g names c.args.meter.now.left c.array_of.new.meter.left (λ I. counted (λ m. makes_array (drop m (items_in (tell I (v.Array c.args.array))))) c.args.count) (λ I. makes_array (map (tell I) made))
     (λ I fit.
       let old = c.array_of.ensures.adds.adds I names fit in

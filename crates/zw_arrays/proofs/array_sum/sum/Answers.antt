@@ -41,7 +41,7 @@ returns c = λ left.
     let h = c.args.heap.now in
     let names = c.args.names.now in
     let z = c.total.result in
-    let fits : FitsSigned w128 z = c.total.type_inv in
+    let fits : FitsSigned w128 z = record { sfits = c.total.type_inv } in
     let tried = simp to_z-of_z at c.try_from.ensures in
     let exact : IsInRange c.ok.result z = ? in
     all_fitting h names left left (λ I. integers_tested (items_in (tell I (v.Array c.args.array))) (makes_integer (sum_of (pos 0) (items_in (tell I (v.Array c.args.array)))))) (λ I. makes_integer z)

@@ -14,9 +14,9 @@ loop-item-preserved c =
     let xs = c.args.items.now in
     let x = get_or xs i v.Nil in
     let n = c.integer_in.result in
-    let fits : FitsSigned w64 n = c.integer_in.type_inv in
+    let fits : FitsSigned w64 n = record { sfits = c.integer_in.type_inv } in
     let same : c.from-total.result ≡ n = c.from-total.ensures ∙ to_z-of_z w64 n fits in
-    let wide : FitsSigned w128 c.from-total.result = c.from-total.type_inv in
+    let wide : FitsSigned w128 c.from-total.result = record { sfits = c.from-total.type_inv } in
     let t = to_z w128 c.loop-item.total-bits in
     let low : neg_ℤ (pos (2 ^ 63 * (i + 1))) ≤ℤ (t +ℤ n) = ? in
     let high : (t +ℤ n) ≤ℤ pos (2 ^ 63 * (i + 1)) = ? in
