@@ -1,8 +1,9 @@
 -- What methods of Array do: by the items of an array, and act after act.
-use Rattle.std.proofs.Common.{◌≡◌, ℕ, ◌+◌, ◌-◌, ◌<◌, ◌≤◌, Bool, true, false, nat_lt, ℤ, pos, negsuc, ◌<ℤ◌, unsigned_abs, zero, suc, List, [], ◌∷◌, ◌++◌, length, map, take, drop, filter, get_or, reverse, min, not, codes, Option, Some, None, slice_get, Result, Ok, Err, IfOk, refl, sym, ap, subst, cond, ◌∙◌, arith}
+use Rattle.std.proofs.Common.{◌≡◌, ℕ, ◌+◌, ◌-◌, ◌<◌, ◌≤◌, Bool, true, false, nat_lt, ℤ, pos, negsuc, ◌<ℤ◌, unsigned_abs, zero, suc, List, [], ◌∷◌, ◌++◌, length, map, take, drop, filter, get_or, reverse, min, not, codes, Option, Some, None, slice_get, Result, Ok, Err, IfOk, FitsSigned, refl, sym, ap, subst, cond, ◌∙◌, arith}
 use Rattle.std.proofs.lemmas.Bool.{le-ltb, lt-ltb}
 use Rattle.std.proofs.lemmas.Int.{ints}
-use Rattle.std.specs.Int.{FitsUnsignedBits}
+use Rattle.std.specs.Int.{FitsUnsignedBits, w64}
+use Rattle.std.specs.Result.{OkIff, result_ok}
 use Rattle.std.specs.List.{All}
 use Rattle.std.proofs.lemmas.List.{length-map, map-append, append_assoc, take-map, take_min, drop_min}
 use Rattle.zw_lemmas.proofs.ListLemmas.{reverse-map}
@@ -26,6 +27,7 @@ use Rattle.zw_heap.specs.declared.value.ArrayRef.{ArrayRef}
 use Rattle.zw_arrays.specs.Answer.{answer_seen}
 use Rattle.zw_calls.specs.ArrayRow.{array_row_seen}
 use Rattle.zw_calls.specs.End.{Performs, AddsValues, IsDone, end_seen}
+use Rattle.zw_calls.specs.Integer.{IsInRange}
 use Rattle.zw_calls.specs.declared.end.PrimEnd.{PrimEnd}
 use Rattle.zw_calls.specs.declared.end.PrimEnd.TheVariants as e
 use Rattle.zw_calls.specs.declared.array_row.ArrayRow.{ArrayRow}
@@ -149,6 +151,12 @@ module _ {A B : Type 0} (f : A → B) where
 
     pub dropped-is : (n : ℕ) (all : List A) → all ≡ drop (min n (length xs)) xs → drop n us ≡ map f all
     dropped-is n all is = ap (drop n) items ∙ drop-map n xs ∙ ap (map f) (sym (drop_min n xs) ∙ sym is)
+
+-- ---- integers in range
+
+pub ok-in_range : {E : Type 0} (r : Result ℤ E) (z : ℤ) → OkIff r (FitsSigned w64 z) z → IsInRange (result_ok r) z
+ok-in_range (Ok x) z exact = exact
+ok-in_range (Err e) z exact = exact
 
 -- ---- counts
 

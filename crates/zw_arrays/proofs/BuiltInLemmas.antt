@@ -145,3 +145,6 @@ module _ (I : Telling) (names : List Text) (h : Held) (w : World) (fit : Fits I 
   there-text (v.Int z) within = (signed_decimal z, refl)
   there-text (v.Array a) within = there-inspected (length h.arrays) shown-all (v.Array a) within within
   there-text (v.Module m) within = there-class m.0 within
+
+  pub all-there : (xs : List Value) → All (IsIn (sizes_of h)) xs → All (λ x. IsThere (built_in w (tell I x))) xs
+  all-there xs held = λ k d lt. there-text (get_or xs k d) (held k d lt)

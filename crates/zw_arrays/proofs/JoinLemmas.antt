@@ -1,9 +1,13 @@
 -- Texts that are joined item by item.
-use Rattle.std.proofs.Common.{◌≡◌, ℕ, zero, suc, ◌+◌, ◌<◌, ◌≤◌, List, [], ◌∷◌, ◌++◌, length, get_or, map, drop, Option, Some, None, refl, sym, ap, ◌∙◌, arith, append_assoc}
+use Rattle.std.proofs.Common.{◌≡◌, ℕ, zero, suc, ◌+◌, ◌<◌, ◌≤◌, List, [], ◌∷◌, ◌++◌, length, get_or, map, drop, Option, Some, None, Result, Ok, Err, refl, sym, ap, subst, ◌∙◌, arith, append_assoc}
 use Rattle.std.specs.Option.{option_map}
 use Rattle.std.specs.List.{All}
 use Rattle.std.proofs.lemmas.List.{append-nil, length-append}
 use Rattle.std.proofs.lemmas.List.Elements.{All-head, All-tail, All-drop}
+use Rattle.std.specs.Result.{IsErrAnd}
+use Rattle.zw_base.specs.Fault.{IfReason, IfRefused}
+use Rattle.zw_base.specs.declared.fault.Fault.{Fault}
+use Rattle.zw_base.specs.declared.fault.Fault.TheVariants.{Refused, Memory}
 use Rattle.zw_def.specs.Text.{Text}
 use Rattle.zw_def_world.specs.ArrayRows.{join_texts, joined_by}
 use Rattle.zw_def_world.specs.Inspect.{built_in}
@@ -17,6 +21,22 @@ use Rattle.zw_heap.specs.declared.value.Value.TheVariants as v
 use Rattle.zw_arrays.specs.Joined.{separated}
 use Rattle.zw_arrays.proofs.BuiltInLemmas.{IsThere}
 use Rattle.zw_arrays.proofs.EqualityLemmas.{drop-read}
+
+-- ---- refusals that are handed on
+
+pub err_is : {X E : Type 0} (r : Result X E) (f : E) → IsErrAnd r (λ e. e ≡ f) → r ≡ Err f
+err_is (Ok x) f a = absurd a
+err_is (Err e) f a = ap Err a
+
+refused-for : {E : Type 0} (f : Fault E) (P Q : Type 0) → (P → Q) → IfReason f (λ refusal. P) → IfReason f (λ refusal. Q)
+refused-for (Refused refusal) P Q follows holds = follows holds
+refused-for Memory P Q follows holds = holds
+
+-- a call that refuses for the reason of another one
+pub handed-on : {X E : Type 0} (r : Result X (Fault E)) (f : Fault E) (P Q : Type 0) → IsErrAnd r (λ e. e ≡ f) → (P → Q) → IfReason f (λ refusal. P) → IfRefused r (λ refusal. Q)
+handed-on r f P Q is follows holds = subst (λ s. IfRefused s (λ refusal. Q)) (sym (err_is r f is)) (refused-for f P Q follows holds)
+
+-- ---- texts of items
 
 -- the texts of items from that place on
 abbrev pub joined_from : World → Text → ℕ → List told.Value → Option Text

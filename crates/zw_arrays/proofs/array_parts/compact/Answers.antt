@@ -16,7 +16,7 @@ returns-clause-performs c = λ names.
     all_fitting g names c.args.meter.now.left c.array_of.new.meter.left (λ I. makes_array (filter is_some_value (items_in (tell I (v.Array c.args.array))))) (λ I. makes_array (map (tell I) made))
     (λ I fit. let old = c.array_of.ensures.adds.adds I names fit in ap makes_array (ap (filter is_some_value) (c.items.ensures.told I names old) ∙ sym (c.in_ok-some.ensures.told I) ∙ ap (map (tell I)) (sym c.as_slice.ensures.value))) c.array_of.result (c.array_of.ensures.performs names)
 
-pub array_of-requires-clause-items : goal.array_of-requires-clause-items
-array_of-requires-clause-items c =
+pub array_of-requires : goal.array_of-requires
+array_of-requires c =
     let h = c.args.heap.now in
-    subst (All (IsItem h)) (sym c.as_slice.ensures.value) (c.in_ok-some.ensures.items h c.items.ensures.held)
+    record { items = subst (All (IsItem h)) (sym c.as_slice.ensures.value) (c.in_ok-some.ensures.items h c.items.ensures.held) }

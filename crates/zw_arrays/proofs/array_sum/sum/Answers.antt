@@ -1,4 +1,4 @@
-use Rattle.std.proofs.Common.{◌≡◌, pos, FitsSigned, IfSome, ap, ◌∙◌, refl, sym, subst, rules}
+use Rattle.std.proofs.Common.{◌≡◌, pos, FitsSigned, IfSome, map, ap, ◌∙◌, refl, sym, subst, rules}
 use Rattle.std.specs.Int.{w128}
 use Rattle.std.proofs.lemmas.Int.{to_z-of_z}
 use Rattle.zw_def_world.specs.Act.{Act}
@@ -13,7 +13,7 @@ use Rattle.zw_calls.specs.Fault.{fault_seen}
 use Rattle.zw_calls.specs.Integer.{IsInRange}
 use Rattle.zw_calls.proofs.PerformLemmas.{all_at_once}
 use Rattle.zw_arrays.specs.Sum.{after_items}
-use Rattle.zw_arrays.proofs.ArrayLemmas.{all_fitting}
+use Rattle.zw_arrays.proofs.ArrayLemmas.{all_fitting, ok-in_range}
 use Rattle.zw_arrays.proofs.ItemLemmas.{items-held}
 use Rattle.zw_arrays.proofs.array_sum.sum.Goals as goal
 
@@ -43,11 +43,11 @@ returns c = λ left.
     let z = c.total.result in
     let fits : FitsSigned w128 z = record { sfits = c.total.type_inv } in
     let tried = simp to_z-of_z at c.try_from.ensures in
-    let exact : IsInRange c.ok.result z = ? in
+    let exact : IsInRange c.ok.result z = subst (λ o. IsInRange o z) (sym c.ok.ensures.value) (ok-in_range c.try_from.result z tried) in
     all_fitting h names left left (λ I. integers_tested (items_in (tell I (v.Array c.args.array))) (makes_integer (sum_of (pos 0) (items_in (tell I (v.Array c.args.array)))))) (λ I. makes_integer z)
     (λ I fit.
       ap (λ us. integers_tested us (makes_integer (sum_of (pos 0) us))) (c.items-items.ensures.told I names fit)
-      ∙ c.first_other.ensures.told I _
-      ∙ ap (λ o. after_items I o _) c.in_default.is
+      ∙ c.first_other.ensures.told I (makes_integer (sum_of (pos 0) (map (tell I) c.items-items.result.now)))
+      ∙ ap (λ o. after_items I o (makes_integer (sum_of (pos 0) (map (tell I) c.items-items.result.now)))) c.in_default.is
       ∙ ap makes_integer (c.total.ensures I))
     c.integer.result (all_at_once h names left (λ I. makes_integer z) (λ s I. makes_integer z) (λ s I. refl) c.integer.result (c.integer.ensures z exact))

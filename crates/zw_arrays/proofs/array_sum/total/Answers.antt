@@ -18,9 +18,9 @@ loop-item-preserved c =
     let same : c.from-total.result ≡ n = c.from-total.ensures ∙ to_z-of_z w64 n fits in
     let wide : FitsSigned w128 c.from-total.result = record { sfits = c.from-total.type_inv } in
     let t = to_z w128 c.loop-item.total-bits in
-    let low : neg_ℤ (pos (2 ^ 63 * (i + 1))) ≤ℤ (t +ℤ n) = ? in
-    let high : (t +ℤ n) ≤ℤ pos (2 ^ 63 * (i + 1)) = ? in
-    let both : FitsSigned w128 (t +ℤ n) = ? in
+    let low : neg_ℤ (pos (2 ^ 63 * (i + 1))) ≤ℤ (t +ℤ n) = omega (arith, ints) in
+    let high : (t +ℤ n) ≤ℤ pos (2 ^ 63 * (i + 1)) = omega (arith, ints) in
+    let both : FitsSigned w128 (t +ℤ n) = omega (arith, ints) in
     let is : to_z w128 (of_z w128 (t +ℤ to_z w128 (of_z w128 c.from-total.result))) ≡ t +ℤ n =
         ap (λ z. to_z w128 (of_z w128 (t +ℤ z))) (to_z-of_z w128 c.from-total.result wide ∙ same) ∙ to_z-of_z w128 (t +ℤ n) both
     in
