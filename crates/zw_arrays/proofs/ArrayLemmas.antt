@@ -1,17 +1,17 @@
 -- What methods of Array do: by the items of an array, and act after act.
-use Rattle.std.proofs.Common.{◌≡◌, ℕ, ◌+◌, ◌-◌, ◌<◌, ◌≤◌, Bool, true, false, nat_lt, ℤ, pos, negsuc, ◌<ℤ◌, unsigned_abs, zero, suc, List, [], ◌∷◌, ◌++◌, length, map, take, drop, filter, get_or, reverse, min, not, codes, Option, Some, None, slice_get, Result, Ok, Err, IfOk, FitsSigned, refl, sym, ap, subst, cond, ◌∙◌, arith}
+use Rattle.std.proofs.Common.{◌≡◌, ℕ, ◌+◌, ◌-◌, ◌<◌, ◌≤◌, Bool, true, false, ℤ, pos, negsuc, ◌<ℤ◌, unsigned_abs, zero, suc, List, [], ◌∷◌, ◌++◌, length, map, take, drop, filter, get_or, reverse, min, not, codes, Option, Result, Ok, Err, IfOk, FitsSigned, refl, sym, ap, cond, ◌∙◌, arith}
 use Rattle.std.proofs.lemmas.Bool.{le-ltb, lt-ltb}
 use Rattle.std.proofs.lemmas.Int.{ints}
 use Rattle.std.specs.Int.{FitsUnsignedBits, w64}
 use Rattle.std.specs.Result.{OkIff, result_ok}
 use Rattle.std.specs.List.{All}
-use Rattle.std.proofs.lemmas.List.{length-map, map-append, append_assoc, take-map, take_min, drop_min}
+use Rattle.std.proofs.lemmas.List.{map-append, append_assoc, take-map, take_min, drop_min}
 use Rattle.zw_lemmas.proofs.ListLemmas.{reverse-map}
 use Rattle.std.proofs.lemmas.List.Elements.{All-push}
 use Rattle.std.specs.declared.alloc.AllocError.{AllocError}
 use Rattle.zw_def.specs.Text.{Text}
-use Rattle.zw_def_world.specs.Act.{Act, Point, ◌>>=◌, go_on, continued, gives, paid}
-use Rattle.zw_def_world.specs.ArrayRows.{array_act, item_at, last_value, is_some_value, uniques, without_items, kept_unless, index_from, sum_of, integers_tested}
+use Rattle.zw_def_world.specs.Act.{Act, Point, go_on, continued, gives}
+use Rattle.zw_def_world.specs.ArrayRows.{array_act, item_at, last_value, is_some_value, uniques, without_items, kept_unless}
 use Rattle.zw_def_world.specs.CoreClass.{ArgumentError}
 use Rattle.zw_def_world.specs.Equality.{among}
 use Rattle.zw_def_world.specs.IntegerRows.{counted}
@@ -26,7 +26,7 @@ use Rattle.zw_heap.specs.declared.value.Value.TheVariants as v
 use Rattle.zw_heap.specs.declared.value.ArrayRef.{ArrayRef}
 use Rattle.zw_arrays.specs.Answer.{answer_seen}
 use Rattle.zw_calls.specs.ArrayRow.{array_row_seen}
-use Rattle.zw_calls.specs.End.{Performs, AddsValues, IsDone, end_seen}
+use Rattle.zw_calls.specs.End.{Performs, IsDone, end_seen}
 use Rattle.zw_calls.specs.Integer.{IsInRange}
 use Rattle.zw_calls.specs.declared.end.PrimEnd.{PrimEnd}
 use Rattle.zw_calls.specs.declared.end.PrimEnd.TheVariants as e

@@ -1,5 +1,5 @@
 -- Each value of a heap has a built-in text, in each world that agrees with the heap.
-use Rattle.std.proofs.Common.{◌≡◌, ℕ, zero, suc, ◌<◌, Bool, true, false, List, [], ◌∷◌, ◌++◌, codes, length, get_or, map, slice_get, Option, Some, None, refl, sym, ap, subst, cond, ◌∙◌, arith}
+use Rattle.std.proofs.Common.{◌≡◌, ℕ, zero, suc, ◌<◌, Bool, true, false, List, [], ◌∷◌, ◌++◌, codes, length, get_or, map, slice_get, Option, Some, None, refl, ap, subst, cond, ◌∙◌, arith}
 use Rattle.std.specs.Fmt.{signed_decimal}
 use Rattle.std.specs.Option.{option_map}
 use Rattle.std.specs.List.{All}
@@ -8,16 +8,12 @@ use Rattle.std.proofs.lemmas.Option.{slice_get-get_or}
 use Rattle.zw_def.specs.Text.{Text}
 use Rattle.zw_def_world.specs.Ancestor.{makes_exceptions}
 use Rattle.zw_def_world.specs.CoreClass.{Exception, is_main}
-use Rattle.zw_def_world.specs.Id.{Id}
 use Rattle.zw_def_world.specs.Inspect.{module_text, class_text, kept_or_class, message_of, is_exception, exception_text, message_behind, plain_text, object_text, inspected, inspected_items, inspected_more, object_built_in, built_in, truth_text}
 use Rattle.zw_def_world.specs.Missing.{bind}
 use Rattle.zw_def_world.specs.Quote.{quoted, symbol_text}
-use Rattle.zw_def_world.specs.Record as told_record
 use Rattle.zw_def_world.specs.Value as told
 use Rattle.zw_def_world.specs.World.{World}
-use Rattle.zw_heap.specs.Heap as heap
 use Rattle.zw_heap.specs.Heap.{Held, Row, sizes_of}
-use Rattle.zw_heap.specs.ModuleRecord.{Module}
 use Rattle.zw_heap.specs.ObjectRecord.{Object}
 use Rattle.zw_heap.specs.Sound.{IsSound, IsIn, IsBelow, ObjectIn}
 use Rattle.zw_heap.specs.Superclass.{descends}

@@ -1,5 +1,5 @@
 -- Comparisons of values: by what names are told, and step by step.
-use Rattle.std.proofs.Common.{◌≡◌, ℕ, ◌+◌, ◌-◌, ◌<◌, ◌≤◌, ◌&&◌, ℤ, pos, Bool, true, false, nat_lt, ◌==◌, List, [], ◌∷◌, length, map, drop, get_or, slice_get, Option, Some, None, ◌⊎◌, inl, inr, ◌↔◌, IsTrue, refl, sym, ap, subst, cond, ◌∙◌, arith, Decides}
+use Rattle.std.proofs.Common.{◌≡◌, ℕ, ◌+◌, ◌-◌, ◌<◌, ◌≤◌, ◌&&◌, pos, Bool, true, false, nat_lt, ◌==◌, List, ◌∷◌, length, map, drop, get_or, slice_get, Option, Some, None, ◌⊎◌, inl, inr, ◌↔◌, IsTrue, refl, sym, ap, cond, ◌∙◌, arith, Decides}
 use Rattle.std.specs.Option.{option_map}
 use Rattle.std.specs.Str.{bytes_eq}
 use Rattle.std.specs.Cmp.Lexicographic.{pointwise_decides}

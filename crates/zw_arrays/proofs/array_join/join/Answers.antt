@@ -1,4 +1,4 @@
-use Rattle.std.proofs.Common.{get_or, map, string_bytes, ap, ◌∙◌, sym}
+use Rattle.std.proofs.Common.{get_or, map, ap, ◌∙◌, sym}
 use Rattle.zw_def_world.specs.Act.{read, reading}
 use Rattle.zw_def_world.specs.ArrayRows.{join_texts}
 use Rattle.zw_def_world.specs.Making.{makes_text}
@@ -19,10 +19,10 @@ returns-in-Ok-clause-performs c =
     all_go_on g names left left c.text.new.meter.left
     (λ I. reading (λ w. join_texts w (told.text_in (get_or (map (tell I) c.args.args.now) 0 told.nil)) (told.items_in (tell I (v.Array c.args.array)))) makes_text) (λ I. makes_text made)
     (λ I p fit agrees e.
-      let old = c.text.ensures.adds.adds I names fit in
-      let before = agrees_before I p.world h g c.text.ensures.adds agrees in
-      (λ j. read (join_texts p.world (c.text_at-separator.ensures I old j) (c.items.ensures.told I names old j)) makes_text p)
-      ∙ ap (λ o. read o makes_text p) (c.in-Ok.ensures.told I p.world old before)
-      ∙ ap (λ t. makes_text t p) (sym c.as_str.ensures.value)
-      ∙ ap (λ n. makes_text made (record p { left = n })) e)
+    let old = c.text.ensures.adds.adds I names fit in
+    let before = agrees_before I p.world h g c.text.ensures.adds agrees in
+    (λ j. read (join_texts p.world (c.text_at-separator.ensures I old j) (c.items.ensures.told I names old j)) makes_text p)
+    ∙ ap (λ o. read o makes_text p) (c.in-Ok.ensures.told I p.world old before)
+    ∙ ap (λ t. makes_text t p) (sym c.as_str.ensures.value)
+    ∙ ap (λ n. makes_text made (record p { left = n })) e)
     c.text.result (c.text.ensures.performs names)

@@ -1,4 +1,4 @@
-use Rattle.std.proofs.Common.{◌≡◌, ◌+◌, ◌<◌, ◌≤◌, [], length, get_or, Some, ap, ◌∙◌, refl, sym, subst, map, drop, cond, arith}
+use Rattle.std.proofs.Common.{◌+◌, ◌≤◌, length, get_or, ap, ◌∙◌, refl, sym, subst, map, drop, arith}
 use Rattle.std.specs.List.{All}
 use Rattle.std.proofs.Math.ListN.{drop_of_length-le}
 use Rattle.zw_def_world.specs.Act.{continued, go_on}

@@ -1,4 +1,4 @@
-use Rattle.std.proofs.Common.{◌++◌, reverse, filter, map, ap, sym, subst, ◌∙◌}
+use Rattle.std.proofs.Common.{filter, map, ap, sym, subst, ◌∙◌}
 use Rattle.std.specs.List.{All}
 use Rattle.zw_def_world.specs.ArrayRows.{is_some_value}
 use Rattle.zw_def_world.specs.Making.{makes_array}

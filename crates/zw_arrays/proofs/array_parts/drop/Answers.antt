@@ -1,4 +1,4 @@
-use Rattle.std.proofs.Common.{◌≡◌, ◌-◌, ◌≤◌, ℕ, FitsSigned, pos, length, map, min, drop, ap, ◌∙◌, arith}
+use Rattle.std.proofs.Common.{◌≡◌, ◌-◌, FitsSigned, pos, length, map, min, drop, ap, ◌∙◌, arith}
 use Rattle.std.proofs.lemmas.List.{take_all, length-drop}
 use Rattle.std.specs.Int.{w64}
 use Rattle.std.proofs.lemmas.Int.{to_z-of_z}
@@ -20,13 +20,13 @@ returns-clause-performs c = λ names.
     let tried = simp to_z-of_z at c.in-Ok.ensures in
     let is : c.args.count ≡ pos n = counted-is c.args.count n tried.0 tried.1 in
     let all : made ≡ drop (min n (length xs)) xs =
-        c.as_slice.ensures.value ∙ c.in_ok-rest.ensures.items
-        ∙ take_all (length xs - c.min.result) (drop c.min.result xs) (omega (arith, length-drop c.min.result xs))
-        ∙ ap (λ m. drop m xs) c.min.ensures
+    c.as_slice.ensures.value ∙ c.in_ok-rest.ensures.items
+    ∙ take_all (length xs - c.min.result) (drop c.min.result xs) (omega (arith, length-drop c.min.result xs))
+    ∙ ap (λ m. drop m xs) c.min.ensures
     in
     all_fitting g names c.args.meter.now.left c.array_of.new.meter.left (λ I. counted (λ m. makes_array (drop m (items_in (tell I (v.Array c.args.array))))) c.args.count) (λ I. makes_array (map (tell I) made))
     (λ I fit.
-      let old = c.array_of.ensures.adds.adds I names fit in
-      let us = items_in (tell I (v.Array c.args.array)) in
-      counted-up (λ m. makes_array (drop m us)) c.args.count n is
-      ∙ ap makes_array (dropped-is (tell I) us xs (c.items-items.ensures.told I names old) n made all)) c.array_of.result (c.array_of.ensures.performs names)
+    let old = c.array_of.ensures.adds.adds I names fit in
+    let us = items_in (tell I (v.Array c.args.array)) in
+    counted-up (λ m. makes_array (drop m us)) c.args.count n is
+    ∙ ap makes_array (dropped-is (tell I) us xs (c.items-items.ensures.told I names old) n made all)) c.array_of.result (c.array_of.ensures.performs names)

@@ -1,5 +1,4 @@
 use Rattle.std.proofs.Common.{◌≡◌, ◌++◌, map, ap, ◌∙◌}
-use Rattle.zw_def_world.specs.ArrayRows.{is_some_value}
 use Rattle.zw_def_world.specs.Making.{makes_array}
 use Rattle.zw_def_world.specs.Value.{items_in}
 use Rattle.zw_heap.specs.Telling.{tell}

@@ -1,4 +1,4 @@
-use Rattle.std.proofs.Common.{◌≡◌, ◌+◌, ◌<◌, ◌≤◌, ◌++◌, length, get_or, ap, ◌∙◌, refl, sym, subst, map, drop, filter, not, arith}
+use Rattle.std.proofs.Common.{◌≡◌, ◌+◌, ◌≤◌, ◌++◌, length, get_or, ap, ◌∙◌, refl, sym, subst, map, drop, filter, not, arith}
 use Rattle.std.specs.List.{All}
 use Rattle.std.proofs.Math.ListN.{drop_of_length-le}
 use Rattle.std.proofs.lemmas.List.{append-nil}
@@ -19,10 +19,10 @@ loop-item-preserved c =
     let some = c.loop-item.some.items in
     let is_nil = c.match-matches.matches in
     let flag : (I : Telling) → is_some_value (tell I x) ≡ not is_nil = λ I.
-        elim c.match-matches.branch [
-          in-Nil w ↦ ap (λ y. is_some_value (tell I y)) w.in-Nil.is ∙ ap not (sym w.matches-is)
-        | in_default w ↦ some-is I x w.in_default.not-Nil ∙ ap not (sym w.matches-is)
-        ]
+    elim c.match-matches.branch [
+      | in-Nil w ↦ ap (λ y. is_some_value (tell I y)) w.in-Nil.is ∙ ap not (sym w.matches-is)
+      | in_default w ↦ some-is I x w.in_default.not-Nil ∙ ap not (sym w.matches-is)
+    ]
     in
     record {
       items = λ h all. subst (All (IsItem h)) (sym c.in_ok-keep_unless.ensures) (All-kept (IsItem h) is_nil some x (c.loop-item.invariant.items h all) (all i v.Nil c.loop-item-test.true));

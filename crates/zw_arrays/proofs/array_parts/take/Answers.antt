@@ -1,4 +1,4 @@
-use Rattle.std.proofs.Common.{◌≡◌, ◌-◌, ◌≤◌, ℕ, FitsSigned, pos, length, map, min, take, ap, ◌∙◌, arith}
+use Rattle.std.proofs.Common.{◌≡◌, FitsSigned, pos, length, map, min, take, ap, ◌∙◌}
 use Rattle.std.specs.Int.{w64}
 use Rattle.std.proofs.lemmas.Int.{to_z-of_z}
 use Rattle.zw_def_world.specs.IntegerRows.{counted}
@@ -21,7 +21,7 @@ returns-clause-performs c = λ names.
     let all : made ≡ take (min n (length xs)) xs = c.as_slice.ensures.value ∙ c.in_ok-taken.ensures.items ∙ ap (λ m. take m xs) c.min.ensures in
     all_fitting g names c.args.meter.now.left c.array_of.new.meter.left (λ I. counted (λ m. makes_array (take m (items_in (tell I (v.Array c.args.array))))) c.args.count) (λ I. makes_array (map (tell I) made))
     (λ I fit.
-      let old = c.array_of.ensures.adds.adds I names fit in
-      let us = items_in (tell I (v.Array c.args.array)) in
-      counted-up (λ m. makes_array (take m us)) c.args.count n is
-      ∙ ap makes_array (taken-is (tell I) us xs (c.items-items.ensures.told I names old) n made all)) c.array_of.result (c.array_of.ensures.performs names)
+    let old = c.array_of.ensures.adds.adds I names fit in
+    let us = items_in (tell I (v.Array c.args.array)) in
+    counted-up (λ m. makes_array (take m us)) c.args.count n is
+    ∙ ap makes_array (taken-is (tell I) us xs (c.items-items.ensures.told I names old) n made all)) c.array_of.result (c.array_of.ensures.performs names)

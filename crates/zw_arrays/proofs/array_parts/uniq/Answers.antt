@@ -25,8 +25,8 @@ returns-clause-performs c = λ names.
     let middle = c.uniques.new.meter.left in
     all_go_on g names c.args.meter.now.left middle c.array_of.new.meter.left (λ I. uniques [] (items_in (tell I (v.Array c.args.array)))) (λ I. makes_array (map (tell I) made))
     (λ I p fit agrees e.
-      let old = c.array_of.ensures.adds.adds I names fit in
-      ap (λ us. uniques [] us p) (c.items.ensures.told I names old)
-      ∙ c.in_ok-kept.ensures.told I names p old e
-      ∙ ap (λ k. kept_seen k I (record p { left = middle })) c.in-Some.is
-      ∙ ap (λ xs. makes_array (map (tell I) xs) (record p { left = middle })) (sym c.as_slice.ensures.value)) c.array_of.result (c.array_of.ensures.performs names)
+    let old = c.array_of.ensures.adds.adds I names fit in
+    ap (λ us. uniques [] us p) (c.items.ensures.told I names old)
+    ∙ c.in_ok-kept.ensures.told I names p old e
+    ∙ ap (λ k. kept_seen k I (record p { left = middle })) c.in-Some.is
+    ∙ ap (λ xs. makes_array (map (tell I) xs) (record p { left = middle })) (sym c.as_slice.ensures.value)) c.array_of.result (c.array_of.ensures.performs names)

@@ -16,9 +16,9 @@ returns-in-Some-clause-performs c = λ names.
     let found = c.in-Some.found in
     goes_on h names c.args.meter.now.left later later (λ I. among (tell I c.args.value) (items_in (tell I (v.Array c.args.array)))) (λ I. yes_or_no found)
     (λ I p fit agrees e.
-      ap (λ us. among (tell I c.args.value) us p) (c.items.ensures.told I names fit)
-      ∙ c.is_among.ensures.told I names p fit e
-      ∙ ap (λ a. answer_seen a (record p { left = later })) c.in-Some.is)
+    ap (λ us. among (tell I c.args.value) us p) (c.items.ensures.told I names fit)
+    ∙ c.is_among.ensures.told I names p fit e
+    ∙ ap (λ a. answer_seen a (record p { left = later })) c.in-Some.is)
     c.yes_or_no.result (at_once h names later (λ I. yes_or_no found) (λ s I. yes_or_no found) (λ s I. refl) c.yes_or_no.result c.yes_or_no.ensures)
 
 pub returns-in-None-clause-performs : goal.returns-in-None-clause-performs

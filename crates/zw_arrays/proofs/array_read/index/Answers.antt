@@ -16,9 +16,9 @@ returns-in-Some-Some-clause-performs c = λ names.
     let n = c.in-Some-Some.place in
     all_go_on h names c.args.meter.now.left later later (λ I. index_from 0 (tell I c.args.value) (items_in (tell I (v.Array c.args.array)))) (λ I. gives (int (pos n)))
     (λ I p fit agrees e.
-      ap (λ us. index_from 0 (tell I c.args.value) us p) (c.items.ensures.told I names fit)
-      ∙ c.position.ensures.told I names p fit e
-      ∙ ap (λ a. place_seen a (record p { left = later })) (c.in-Some-Some.is ∙ ap Some c.in-Some-Some.field-0-is))
+    ap (λ us. index_from 0 (tell I c.args.value) us p) (c.items.ensures.told I names fit)
+    ∙ c.position.ensures.told I names p fit e
+    ∙ ap (λ a. place_seen a (record p { left = later })) (c.in-Some-Some.is ∙ ap Some c.in-Some-Some.field-0-is))
     c.count.result (all_at_once h names later (λ I. gives (int (pos n))) (λ s I. gives (int (pos n))) (λ s I. refl) c.count.result c.count.ensures)
 
 pub returns-in-Some-None-clause-performs : goal.returns-in-Some-None-clause-performs

@@ -1,4 +1,4 @@
-use Rattle.std.proofs.Common.{◌≡◌, ◌+◌, ◌≤◌, length, get_or, map, drop, cond, ap, ◌∙◌, refl, sym, arith}
+use Rattle.std.proofs.Common.{◌+◌, ◌≤◌, length, get_or, map, drop, cond, ap, ◌∙◌, refl, sym, arith}
 use Rattle.std.proofs.Math.ListN.{drop_of_length-le}
 use Rattle.zw_def_world.specs.ArrayRows.{integers_tested}
 use Rattle.zw_def_world.specs.Fault.{wrong_kind}

@@ -1,4 +1,4 @@
-use Rattle.std.proofs.Common.{◌≡◌, pos, FitsSigned, IfSome, map, ap, ◌∙◌, refl, sym, subst, rules}
+use Rattle.std.proofs.Common.{pos, FitsSigned, IfSome, map, ap, ◌∙◌, refl, sym, subst}
 use Rattle.std.specs.Int.{w128}
 use Rattle.std.proofs.lemmas.Int.{to_z-of_z}
 use Rattle.zw_def_world.specs.Act.{Act}
@@ -46,8 +46,8 @@ returns c = λ left.
     let exact : IsInRange c.ok.result z = subst (λ o. IsInRange o z) (sym c.ok.ensures.value) (ok-in_range c.try_from.result z tried) in
     all_fitting h names left left (λ I. integers_tested (items_in (tell I (v.Array c.args.array))) (makes_integer (sum_of (pos 0) (items_in (tell I (v.Array c.args.array)))))) (λ I. makes_integer z)
     (λ I fit.
-      ap (λ us. integers_tested us (makes_integer (sum_of (pos 0) us))) (c.items-items.ensures.told I names fit)
-      ∙ c.first_other.ensures.told I (makes_integer (sum_of (pos 0) (map (tell I) c.items-items.result.now)))
-      ∙ ap (λ o. after_items I o (makes_integer (sum_of (pos 0) (map (tell I) c.items-items.result.now)))) c.in_default.is
-      ∙ ap makes_integer (c.total.ensures I))
+    ap (λ us. integers_tested us (makes_integer (sum_of (pos 0) us))) (c.items-items.ensures.told I names fit)
+    ∙ c.first_other.ensures.told I (makes_integer (sum_of (pos 0) (map (tell I) c.items-items.result.now)))
+    ∙ ap (λ o. after_items I o (makes_integer (sum_of (pos 0) (map (tell I) c.items-items.result.now)))) c.in_default.is
+    ∙ ap makes_integer (c.total.ensures I))
     c.integer.result (all_at_once h names left (λ I. makes_integer z) (λ s I. makes_integer z) (λ s I. refl) c.integer.result (c.integer.ensures z exact))

@@ -1,4 +1,4 @@
-use Rattle.std.proofs.Common.{◌≡◌, ◌+◌, ◌<◌, ◌≤◌, ◌*◌, ◌^◌, ◌+ℤ◌, ◌≤ℤ◌, neg_ℤ, pos, FitsSigned, to_z, of_z, length, get_or, map, drop, ap, ◌∙◌, refl, sym, subst, arith}
+use Rattle.std.proofs.Common.{◌≡◌, ◌+◌, ◌≤◌, ◌*◌, ◌^◌, ◌+ℤ◌, ◌≤ℤ◌, neg_ℤ, pos, FitsSigned, to_z, of_z, length, get_or, map, drop, ap, ◌∙◌, refl, sym, subst, arith}
 use Rattle.std.specs.Int.{w64, w128}
 use Rattle.std.proofs.lemmas.Int.{ints, to_z-of_z}
 use Rattle.std.proofs.Math.ListN.{drop_of_length-le}
@@ -22,7 +22,7 @@ loop-item-preserved c =
     let high : (t +ℤ n) ≤ℤ pos (2 ^ 63 * (i + 1)) = omega (arith, ints) in
     let both : FitsSigned w128 (t +ℤ n) = omega (arith, ints) in
     let is : to_z w128 (of_z w128 (t +ℤ to_z w128 (of_z w128 c.from-total.result))) ≡ t +ℤ n =
-        ap (λ z. to_z w128 (of_z w128 (t +ℤ z))) (to_z-of_z w128 c.from-total.result wide ∙ same) ∙ to_z-of_z w128 (t +ℤ n) both
+    ap (λ z. to_z w128 (of_z w128 (t +ℤ z))) (to_z-of_z w128 c.from-total.result wide ∙ same) ∙ to_z-of_z w128 (t +ℤ n) both
     in
     record {
       low = subst (λ z. neg_ℤ (pos (2 ^ 63 * (i + 1))) ≤ℤ z) (sym is) low;

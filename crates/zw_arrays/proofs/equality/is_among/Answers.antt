@@ -1,4 +1,4 @@
-use Rattle.std.proofs.Common.{◌≡◌, ◌+◌, ◌<◌, ◌≤◌, length, Some, get_or, ap, ◌∙◌, refl, sym, map, drop, cond, true, false, arith}
+use Rattle.std.proofs.Common.{◌≡◌, ◌+◌, ◌≤◌, length, Some, get_or, ap, ◌∙◌, refl, sym, map, drop, cond, true, false, arith}
 use Rattle.std.proofs.Math.ListN.{drop_of_length-le}
 use Rattle.zw_def_world.specs.Act.{Act, ends, gives, out_of_steps}
 use Rattle.zw_def_world.specs.Equality.{among, same}
