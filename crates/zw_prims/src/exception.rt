@@ -20,7 +20,7 @@ use crate::shown::made;
 use std::alloc::{AllocError, Global};
 use zw_calls::argument::Arguments;
 use zw_calls::end::{PrimEnd, raise};
-use zw_calls::exception_row::ExceptionRow;
+use zw_calls::ExceptionRow;
 use zw_calls::kind::Kind;
 use zw_calls::reading::text_at;
 use zw_fault::{ErrorKind, Raise};
@@ -118,6 +118,7 @@ fn act(
         (λ s I. exception_act s (exception_row_seen row).1 (tell I (ObjectValue object)) (map (tell I) args.now))
         heap.old heap.new names.now meter.old.left meter.new.left) }
 {
+    heap.is_sound();
     heap.tells_exceptions();
     let receiver = Value::Object(object);
     match row {

@@ -6,9 +6,9 @@ ghost use Rattle.zw_def_world.specs.Ancestor.{class_of};
 ghost use Rattle.zw_def_world.specs.Argument.{kernel_arguments};
 ghost use Rattle.zw_def_world.specs.Id.{Id, id_eq};
 ghost use Rattle.zw_def_world.specs.KernelRows.{kernel_act};
-ghost use Rattle.zw_def_world.specs.Row.{of_kernel};
-ghost use Rattle.zw_def_world.specs.Site.{first};
-ghost use Rattle.zw_def_world.specs.Value.{as_module};
+ghost use Rattle.zw_def_world.specs.Row.{of_kernel, kernel_is_nil};
+ghost use Rattle.zw_def_world.specs.Site.{Site, first, yes_or_no};
+ghost use Rattle.zw_def_world.specs.Value.{Value as Told, as_module};
 ghost use Rattle.zw_def_world.specs.World.{World, is_frozen};
 ghost use Rattle.zw_heap.specs.Heap.{sizes_of};
 ghost use Rattle.zw_heap.specs.Sound.{IsIn};
@@ -26,7 +26,7 @@ use crate::shown::made;
 use std::alloc::{AllocError, Global};
 use zw_calls::argument::Arguments;
 use zw_calls::end::{PrimEnd, yes_or_no};
-use zw_calls::kernel_row::KernelRow;
+use zw_calls::KernelRow;
 use zw_calls::kind::Kind;
 use zw_heap::{Heap, ModuleId, Value};
 use zw_meter::Meter;
@@ -44,6 +44,13 @@ fn class_of(value: Value, heap: &Heap) -> ModuleId
     heap.class_of(value)
 }
 
+/// Whether a value is nil.
+fn is_nil(value: Value) -> bool
+    ensures { (s : Site) (I : Telling) (args : List Told) → kernel_act s kernel_is_nil (tell I value) args ≡ yes_or_no result }
+{
+    matches!(value, Value::Nil)
+}
+
 /// Whether a value is frozen.
 fn is_frozen(value: Value, heap: &Heap) -> bool
     requires held { IsIn (sizes_of heap.now) value }
@@ -58,8 +65,10 @@ fn is_instance(value: Value, class: Value, heap: &Heap) -> bool
     ensures { (I : Telling) (names : List Text) (w : World) (id : Id) → Fits I names heap.now → Agrees I heap.now w
         → as_module (tell I class) ≡ Some id → option_map (λ of. id_eq of id) (class_of w (tell I value)) ≡ Some result }
 {
-    let of = class_of(value, heap);
-    matches!(class, Value::Module(class) if of.0 == class.0)
+    match class {
+        Value::Module(class) => class_of(value, heap).0 == class.0,
+        _ => false,
+    }
 }
 
 /// The first argument, or nil where there is none.
@@ -111,7 +120,7 @@ fn act(
     let other = first(args);
     match row {
         KernelRow::Class => Ok(PrimEnd::Value(Value::Module(class_of(receiver, heap)))),
-        KernelRow::IsNil => Ok(yes_or_no(receiver == Value::Nil)),
+        KernelRow::IsNil => Ok(yes_or_no(is_nil(receiver))),
         KernelRow::IsInstanceOf => Ok(yes_or_no(is_instance(receiver, other, heap))),
         KernelRow::ToS => made(alloc, to_text(alloc, heap, names, receiver), heap, meter),
         KernelRow::Inspect => made(alloc, inspect(alloc, heap, names, receiver), heap, meter),

@@ -20,26 +20,26 @@ use zw_show::inspect;
 /// A call of one of them. Its arguments are tested first.
 pub fn apply(
     alloc: Global,
-    module: ModuleId,
+    of: ModuleId,
     args: &[Value],
     heap: &mut Heap,
     names: &Names,
     meter: &mut Meter,
 ) -> Result<PrimEnd, AllocError>
-    requires receiver { IsIn (sizes_of heap.old) (ModuleValue module) }
+    requires receiver { IsIn (sizes_of heap.old) (ModuleValue of) }
     requires arguments { All (IsIn (sizes_of heap.old)) args.now }
     requires named { heap.old.names ≤ length names.now }
     ensures adds { AddsValues heap.old heap.new }
     ensures depth { meter.new.depth ≡ meter.old.depth }
     ensures paid { IfOk result (MakesOnlyPaid heap.old heap.new) }
     ensures performs { IfOk result
-        (Performs (call_of (of_module module_name) (ModuleValue module) args.now)
+        (Performs (call_of (of_module module_name) (ModuleValue of) args.now)
         heap.new names.now meter.old.left meter.new.left) }
 {
     let arguments = Arguments::of(&[]);
-    if let Some(raise) = arguments.fault(alloc, Value::Module(module), args, heap, names)? {
+    if let Some(raise) = arguments.fault(alloc, Value::Module(of), args, heap, names)? {
         return Ok(PrimEnd::Raise(raise));
     }
-    let path = inspect(alloc, heap, names, Value::Module(module));
+    let path = inspect(alloc, heap, names, Value::Module(of));
     made(alloc, path, heap, meter)
 }

@@ -17,7 +17,7 @@ use std::alloc::{AllocError, Global};
 use zw_calls::argument::Arguments;
 use zw_calls::end::PrimEnd;
 use zw_calls::making::flat_array;
-use zw_calls::nil_row::NilRow;
+use zw_calls::NilRow;
 use zw_heap::{Heap, Value};
 use zw_meter::Meter;
 use zw_names::Names;
