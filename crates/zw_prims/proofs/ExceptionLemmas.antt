@@ -41,7 +41,6 @@ module _ (h g : Held) (names : List Text) (left : ℕ) where
   initialize_arm row o xs is end does = subst (λ k. IfOk end (Does (called k o xs) h g names left left)) (sym is) does
 
   module _ (later : ℕ) (row : ExceptionRow) (o : ObjRef) (xs : List Value) where
-
     pub message_arm : (exception_row_seen row).1 ≡ defined.exception_message → IsException h (v.Object o) → IsSound h → ((I : Telling) (names : List Text) (w : World) (class : ℕ) → Fits I names h → Agrees I h w → class < length h.modules → makes_exceptions w (I.module_id class) ≡ Some (descends h.modules Exception.count class)) → AddsValues h g → (end : Result PrimEnd AllocError) → IfOk end (Performs (λ s I. reading (λ w. built_in w (tell I (v.Object o))) makes_text) g names left later) → IfOk end (Does (called row o xs) h g names left later)
     message_arm is excepts sound tells adds end performs =
         all_perform (called row o xs) h g names left later (adds_named h g adds) end

@@ -6,3 +6,4 @@ pub mod AgreeLemmas
 pub mod KeptLemmas
 pub mod ExceptionLemmas
 pub mod KernelLemmas
+pub mod ApplyLemmas

@@ -18,9 +18,9 @@ ghost use Rattle.zw_prims.specs.Receives.{IsException};
 
 use crate::shown::made;
 use std::alloc::{AllocError, Global};
+use zw_calls::ExceptionRow;
 use zw_calls::argument::Arguments;
 use zw_calls::end::{PrimEnd, raise};
-use zw_calls::ExceptionRow;
 use zw_calls::kind::Kind;
 use zw_calls::reading::text_at;
 use zw_fault::{ErrorKind, Raise};

@@ -24,9 +24,9 @@ ghost use Rattle.zw_prims.specs.Passes.{Pass};
 
 use crate::shown::made;
 use std::alloc::{AllocError, Global};
+use zw_calls::KernelRow;
 use zw_calls::argument::Arguments;
 use zw_calls::end::{PrimEnd, yes_or_no};
-use zw_calls::KernelRow;
 use zw_calls::kind::Kind;
 use zw_heap::{Heap, ModuleId, Value};
 use zw_meter::Meter;

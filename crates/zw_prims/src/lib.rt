@@ -6,6 +6,7 @@
 //! alone is changed.
 #![tactic(auto)]
 
+mod call;
 pub mod class;
 pub mod exception;
 pub mod integer;
@@ -14,3 +15,5 @@ pub mod module;
 pub mod nil;
 pub mod object;
 mod shown;
+
+pub use call::apply;
