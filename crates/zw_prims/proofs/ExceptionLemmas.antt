@@ -47,8 +47,11 @@ module _ (h g : Held) (names : List Text) (left : ℕ) where
         (all_like h g names left later (λ s I. reading (λ w. built_in w (tell I (v.Object o))) makes_text) (called row o xs) adds
         (λ s I p fit agrees. ap (λ k. exception_act s k (tell I (v.Object o)) (map (tell I) xs) p) is ∙ message-told I h p o.0 object.0 agrees object.1 (tells I names p.world object.0.class.0 fit agrees within ∙ ap Some object.2)) end performs)
       where
+        class : (x : Object) × (slice_get h.objects o.0 ≡ Some x) × (x.class.0 ≡ excepts.0)
+        class = mapped (λ (x : Object). x.class.0) (slice_get h.objects o.0) excepts.0 excepts.1
+
         object : (x : Object) × (slice_get h.objects o.0 ≡ Some x) × (descends h.modules Exception.count x.class.0 ≡ true)
-        object = mapped (λ (x : Object). descends h.modules Exception.count x.class.0) (slice_get h.objects o.0) true excepts
+        object = (class.0, class.1, ap (descends h.modules Exception.count) class.2 ∙ excepts.2)
 
         inside : ObjectIn (sizes_of h) object.0
         inside = subst (ObjectIn (sizes_of h)) (get_or_from_slice_get h.objects o.0 object.0 object.0 object.1) (sound.within.objects_in o.0 object.0 (slice_get_within h.objects o.0 object.0 object.1))
