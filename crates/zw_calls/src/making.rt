@@ -31,6 +31,7 @@ pub fn new_text(text: &str, heap: &mut Heap) -> Result<Value, AllocError>
     requires { length text.now ≤ max_text }
     ensures adds { AddsValues heap.old heap.new }
     ensures held { IfOk result (IsIn (sizes_of heap.new)) }
+    ensures flat { IfOk result IsFlat }
     ensures told { IfOk result (λ value. (I : Telling) (names : List Text) → Fits I names heap.new
         → tell I value ≡ told.text text.now) }
 {

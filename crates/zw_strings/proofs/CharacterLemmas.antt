@@ -1,6 +1,5 @@
 -- Characters and their bytes.
 use Rattle.std.proofs.Common.{◌≡◌, ℕ, List, [], ◌∷◌, ◌++◌, encode_utf8, encode_utf8_all, string_bytes, String, Global, Result, Ok, Err, IfOk, refl, ap, ◌∙◌}
-use Rattle.zw_def.specs.Text.{Text}
 use Rattle.zw_def_world.specs.StringRows.{of_characters}
 
 pub of_characters-is : (cs : List ℕ) → encode_utf8_all cs ≡ of_characters cs

@@ -1,12 +1,10 @@
 -- The pieces between the places of a separator that is not empty.
-use Rattle.std.proofs.Common.{◌≡◌, ◌<◌, ◌≤◌, ◌+◌, ◌-◌, ℕ, zero, suc, Bool, true, false, List, [], ◌∷◌, ◌++◌, length, map, take, drop, reverse, cond, string_bytes, String, Global, refl, sym, ap, subst, ◌∙◌, append_assoc, append-nil, length-append, length-drop, arith}
+use Rattle.std.proofs.Common.{◌≡◌, ◌<◌, ◌≤◌, ◌+◌, ℕ, zero, suc, Bool, true, false, List, [], ◌∷◌, ◌++◌, length, take, drop, refl, sym, ap, ◌∙◌, append_assoc, append-nil, length-append, length-drop, arith}
 use Rattle.std.specs.Str.Pattern.{LacksTextAt}
 use Rattle.std.specs.Str.{bytes_eq}
 use Rattle.std.proofs.Math.Seq.{drop-append_seam}
-use Rattle.std.proofs.lemmas.List.{map-append, reverse-append, reverse-reverse}
 use Rattle.zw_def.specs.Text.{Text}
-use Rattle.zw_def_world.specs.StringRows.{cut, is_empty, without_empty, without_empty_end}
-use Rattle.zw_strings.specs.Pieces.{begins_empty}
+use Rattle.zw_def_world.specs.StringRows.{cut}
 use Rattle.zw_strings.proofs.TextLemmas.{front-is, front-other}
 
 module _ (separator : Text) (some : 0 < length separator) where
@@ -67,26 +65,3 @@ module _ (separator : Text) (some : 0 < length separator) where
 
 pub piece-more : (front later left : List Text) (piece : Text) → left ≡ piece ∷ later → (front ++ piece ∷ []) ++ later ≡ front ++ left
 piece-more front later left piece is = append_assoc front (piece ∷ []) later ∙ ap (λ ts. front ++ ts) (sym is)
-
--- ---- empty texts at the end
-
-pub end-dropped : (ts : List Text) (t : Text) → is_empty t ≡ true → without_empty_end (ts ++ t ∷ []) ≡ without_empty_end ts
-end-dropped ts t empty =
-    ap (λ us. reverse (without_empty us)) (reverse-append ts (t ∷ [])) ∙ ap (λ b. reverse (cond b (without_empty (reverse ts)) (t ∷ reverse ts))) empty
-
-begun-kept : (ts : List Text) → begins_empty ts ≡ false → without_empty ts ≡ ts
-begun-kept [] other = refl
-begun-kept (t ∷ ts) other = ap (λ b. cond b (without_empty ts) (t ∷ ts)) other
-
-pub end-kept : (ts : List Text) → begins_empty (reverse ts) ≡ false → without_empty_end ts ≡ ts
-end-kept ts other = ap reverse (begun-kept (reverse ts) other) ∙ reverse-reverse ts
-
--- the texts of the code without the last one, which is empty
-pub last-dropped : (made left gone : List (String Global)) → made ≡ left ++ gone → length gone ≤ 1 → begins_empty (reverse (map string_bytes made)) ≡ true → without_empty_end (map string_bytes left) ≡ without_empty_end (map string_bytes made)
-last-dropped made left [] is few dropped = ap (λ ts. without_empty_end (map string_bytes ts)) (sym (append-nil left) ∙ sym is)
-last-dropped made left (x ∷ []) is few dropped =
-    let all : map string_bytes made ≡ map string_bytes left ++ string_bytes x ∷ [] = ap (map string_bytes) is ∙ map-append string_bytes left (x ∷ []) in
-    let empty : is_empty (string_bytes x) ≡ true =
-    ap begins_empty (sym (reverse-append (map string_bytes left) (string_bytes x ∷ []))) ∙ ap (λ ts. begins_empty (reverse ts)) (sym all) ∙ dropped in
-    sym (end-dropped (map string_bytes left) (string_bytes x) empty) ∙ ap without_empty_end (sym all)
-last-dropped made left (x ∷ y ∷ gone) is few dropped = absurd (omega (arith, few))

@@ -1,8 +1,8 @@
 -- The number that the digits at the begin of a text write.
-use Rattle.std.proofs.Common.{◌≡◌, ◌+◌, ◌-◌, ◌*◌, ◌<◌, ◌≤◌, ◌^◌, ℕ, zero, suc, ℤ, pos, neg_ℤ, true, false, List, [], ◌∷◌, length, get_or, take, drop, take_while, cond, FitsSigned, refl, sym, ap, ◌∙◌, arith}
+use Rattle.std.proofs.Common.{◌≡◌, ◌+◌, ◌*◌, ◌<◌, ◌≤◌, ℕ, suc, true, List, [], ◌∷◌, length, get_or, take, drop, take_while, cond, Option, None, refl, sym, ap, subst, ◌∙◌, arith}
 use Rattle.zw_lemmas.proofs.ListLemmas.{drop-at}
-use Rattle.std.specs.Int.{w64}
 use Rattle.std.specs.List.{prefix_len}
+use Rattle.std.specs.Option.{SomeIff}
 use Rattle.std.specs.Str.Parse.{digits_value_after}
 use Rattle.std.specs.Char.{digit_value}
 use Rattle.zw_def.specs.Text.{Text, is_digit}
@@ -23,21 +23,6 @@ more-digits n b d bs digit value =
     one-on : digits_value_after 10 n (take (1 + prefix_len is_digit bs) (b ∷ bs)) ≡ digits_value_after 10 (n * 10 + digit_value b) (take_while is_digit bs)
     one-on = let e : 1 + prefix_len is_digit bs ≡ suc (prefix_len is_digit bs) = omega arith in ap (λ m. digits_value_after 10 n (take m (b ∷ bs))) e
 
-pub no-digits : (n b : ℕ) (bs : Text) → is_digit b ≡ false → number_after n (b ∷ bs) ≡ n
-no-digits n b bs other = ap (λ t. digits_value_after 10 n (take (cond t (1 + prefix_len is_digit bs) 0) (b ∷ bs))) other
-
-pub too_many : (most n : ℕ) (bs : Text) → most ≤ n → number_after n bs < most → ⊥
-too_many most n bs le lt = omega (arith, le, lt, no_less n (take_while is_digit bs))
-
--- ---- with a sign
-
-pub too_high : (n : ℕ) → (n < 2 ^ 64 → ⊥) → FitsSigned w64 (pos n) → ⊥
-too_high n high fit = high (omega (arith, fit.sfits))
-
-pub too_low : (n : ℕ) → (n < 2 ^ 64 → ⊥) → FitsSigned w64 (neg_ℤ (pos n)) → ⊥
-too_low zero high fit = high (omega arith)
-too_low (suc n) high fit = high (omega (arith, fit.sfits))
-
 -- ---- at a place of a text
 
 -- the byte at a place is a digit, and goes into the number
@@ -45,7 +30,12 @@ pub digit_there : (t : Text) (i n all : ℕ) → i < length t → is_digit (get_
 digit_there t i n all lt digit told =
     sym (ap (number_after n) (drop-at t i (i + 1) 0 lt (omega arith)) ∙ more-digits n (get_or t i 0) (digit_value (get_or t i 0)) (drop (i + 1) t) digit refl) ∙ told
 
--- or ends it
-pub no_digit_there : (t : Text) (i n all : ℕ) → i < length t → is_digit (get_or t i 0) ≡ false → number_after n (drop i t) ≡ all → n ≡ all
-no_digit_there t i n all lt other told =
-    sym (ap (number_after n) (drop-at t i (i + 1) 0 lt (omega arith)) ∙ no-digits n (get_or t i 0) (drop (i + 1) t) other) ∙ told
+-- or makes it too high
+pub digits_past : (most : ℕ) (t : Text) (i n all : ℕ) → i < length t → is_digit (get_or t i 0) ≡ true → number_after n (drop i t) ≡ all → (n * 10 + digit_value (get_or t i 0) < most → ⊥) → all < most → ⊥
+digits_past most t i n all lt digit told high small =
+    let more = n * 10 + digit_value (get_or t i 0) in
+    let rest = take_while is_digit (drop (i + 1) t) in
+    high (omega (arith, small, digit_there t i n all lt digit told, no_less more rest))
+
+pub nothing-fits : (o : Option ℕ) (P : Type 0) (n : ℕ) → o ≡ None → (P → ⊥) → SomeIff o P n
+nothing-fits o P n is high = subst (λ r. SomeIff r P n) (sym is) high

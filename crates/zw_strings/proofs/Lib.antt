@@ -3,6 +3,7 @@ pub mod CutLemmas
 pub mod PieceLemmas
 pub mod NamingLemmas
 pub mod WorkLemmas
+pub mod MadeLemmas
 pub mod SpaceLemmas
 pub mod DigitLemmas
 pub mod PaddingLemmas

@@ -1,5 +1,5 @@
 -- Calls that may make a name.
-use Rattle.std.proofs.Common.{◌≡◌, ◌≤◌, ℕ, List, [], ◌++◌, append-nil, length, map, slice_get, Option, Some, None, Result, Ok, Err, IfOk, refl, sym, ap, subst, ◌∙◌, length-append, arith}
+use Rattle.std.proofs.Common.{◌≡◌, ℕ, List, [], append-nil, map, slice_get, Option, None, Result, Ok, Err, IfOk, refl, sym, ap, subst, ◌∙◌}
 use Rattle.zw_lemmas.proofs.PlaceLemmas.{slice_get-front}
 use Rattle.zw_def.specs.Names.{OnlyGrows}
 use Rattle.zw_def.specs.Text.{Text}
@@ -32,13 +32,7 @@ fits_fewer I old new h grows fit = record {
 pub grows_same : (names : List Text) → OnlyGrows names names
 grows_same names = ([], sym (append-nil names))
 
-pub grown_length : (old new : List Text) → OnlyGrows old new → length old ≤ length new
-grown_length old new grows = omega (arith, ap length grows.1, length-append old grows.0)
-
 -- ---- what is added
-
-pub adds_nothing : (h : Held) → AddsNamed h h
-adds_nothing h = record { adds = λ I names fit. fit; stays = λ x held. held; records = refl }
 
 pub adds_values : (h g : Held) → AddsValues h g → AddsNamed h g
 adds_values h g a = record {
@@ -46,9 +40,6 @@ adds_values h g a = record {
   stays = a.stays;
   records = a.records ∙ ap (λ n. record h { names = n; texts = g.texts; arrays = g.arrays }) (sym (ap (λ (k : Held). k.names) a.records));
 }
-
-pub values_name_nothing : (h g : Held) → AddsValues h g → g.names ≡ h.names
-values_name_nothing h g a = ap (λ (k : Held). k.names) a.records
 
 pub names_added : (n : ℕ) (h g : Held) → g ≡ record h { names = n } → ((change : Change) → OnlyAdds h (changed change h)) → Stays h g → AddsNamed h g
 names_added n h g told adds stays = record {

@@ -1,12 +1,12 @@
 -- Texts that are repeated, and how many spaces a text wants.
-use Rattle.std.proofs.Common.{◌≡◌, ◌+◌, ◌-◌, ◌*◌, ◌<◌, ◌≤◌, ℕ, zero, suc, ℤ, pos, negsuc, ◌<ℤ◌, true, false, [], ◌∷◌, ◌/◌, length, chars, codes, cond, nat_lt, refl, ap, ◌∙◌, arith, div-lt_iff_lt-mul}
+use Rattle.std.proofs.Common.{◌≡◌, ◌*◌, ◌<◌, ◌≤◌, ℕ, zero, suc, ℤ, pos, negsuc, ◌<ℤ◌, true, [], ◌∷◌, ◌/◌, length, codes, cond, nat_lt, refl, ap, ◌∙◌, arith, div-lt_iff_lt-mul}
 use Rattle.std.proofs.lemmas.Bool.{le-ltb, lt-ltb}
 use Rattle.std.proofs.lemmas.Int.{ints}
 use Rattle.zw_def.specs.Text.{Text}
 use Rattle.zw_def_world.specs.CoreClass.{ArgumentError}
 use Rattle.zw_def_world.specs.Act.{Act}
 use Rattle.zw_def_world.specs.Making.{fails, makes_text, max_text, too_long}
-use Rattle.zw_def_world.specs.StringRows.{padding, repeated, times, unless_too_long}
+use Rattle.zw_def_world.specs.StringRows.{repeated, times, unless_too_long}
 
 pub repeated-empty : (n : ℕ) → repeated n [] ≡ []
 repeated-empty zero = refl
@@ -22,18 +22,8 @@ times-long z n t is long = ap (λ y. times y t) is ∙ ap (λ b. cond b too_long
 pub times-made : (z : ℤ) (n : ℕ) (t : Text) → z ≡ pos n → n * length t ≤ max_text → times z t ≡ makes_text (repeated n t)
 times-made z n t is few = ap (λ y. times y t) is ∙ ap (λ b. cond b too_long (makes_text (repeated n t))) (le-ltb max_text (n * length t) few)
 
-pub padding-none : (z : ℤ) (t : Text) → z <ℤ pos 0 → padding z t ≡ 0
-padding-none (pos n) t low = absurd (omega (arith, ints, low))
-padding-none (negsuc n) t low = refl
-
-pub padding-some : (z : ℤ) (n : ℕ) (t : Text) → z ≡ pos n → padding z t ≡ n - length (chars t)
-padding-some z n t is = ap (λ y. padding y t) is
-
 pub unless-long : (n : ℕ) (act : Act) → nat_lt max_text n ≡ true → unless_too_long n act ≡ too_long
 unless-long n act long = ap (λ b. cond b too_long act) long
-
-pub unless-short : (n : ℕ) (act : Act) → nat_lt max_text n ≡ false → unless_too_long n act ≡ act
-unless-short n act short = ap (λ b. cond b too_long act) short
 
 pub times-nothing : (z : ℤ) (n : ℕ) (t : Text) → z ≡ pos n → length t ≡ 0 → times z t ≡ makes_text []
 times-nothing z n [] is empty = times-made z n [] is (omega arith) ∙ ap makes_text (repeated-empty n)

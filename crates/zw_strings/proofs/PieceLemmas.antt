@@ -1,5 +1,5 @@
 -- Texts that are paid, one after the other, to stand in an array.
-use Rattle.std.proofs.Common.{◌≡◌, ◌<◌, ◌≤◌, ◌+◌, ◌-◌, ◌/◌, ℕ, suc, List, [], ◌∷◌, ◌++◌, length, map, take, drop, get_or, nat_lt, cond, codes, Option, None, refl, sym, ap, subst, ◌∙◌, append-nil, append_assoc, take-suc, drop_of_length-le, arith}
+use Rattle.std.proofs.Common.{◌≡◌, ◌<◌, ◌≤◌, ◌+◌, ◌-◌, ◌/◌, ℕ, suc, List, [], ◌∷◌, ◌++◌, length, map, take, drop, get_or, nat_lt, cond, codes, None, refl, sym, ap, subst, ◌∙◌, append-nil, append_assoc, take-suc, drop_of_length-le, arith}
 use Rattle.std.specs.List.{All}
 use Rattle.std.proofs.lemmas.Bool.{le-ltb, lt-ltb}
 use Rattle.std.proofs.lemmas.List.{length-map, map-append, take_all}
@@ -99,11 +99,6 @@ module _ (ts : List Text) (p : Point) where
 
   abbrev end : Act
   end = gives (told.array (told.array_of vs))
-
-  pub texts-many : max_items < length ts → makes_array vs p ≡ raises RangeError (codes "array too long") p
-  texts-many many =
-      ap (λ n. cond (nat_lt max_items n) (raises RangeError (codes "array too long")) (cond (nat_lt max_nesting (nesting_of 1 (told.array_of vs))) (raises RangeError (codes "array nested too deep")) (paid n end)) p) (length-map ts told.text)
-      ∙ ap (λ b. cond b (raises RangeError (codes "array too long")) (cond (nat_lt max_nesting (nesting_of 1 (told.array_of vs))) (raises RangeError (codes "array nested too deep")) (paid (length ts) end)) p) (lt-ltb max_items (length ts) many)
 
   few_paid : length ts ≤ max_items → makes_array vs p ≡ paid (length ts) end p
   few_paid few =

@@ -1,6 +1,6 @@
 -- Texts without white space and NUL at their ends.
-use Rattle.std.proofs.Common.{◌≡◌, ◌<◌, ◌≤◌, ◌+◌, ◌-◌, ◌⊎◌, inl, inr, ◌==◌, ◌&&◌, ℕ, zero, suc, Bool, true, false, List, [], ◌∷◌, ◌++◌, length, reverse, take, drop, get_or, cond, Option, Some, None, IfSome, encode_utf8, encode_utf8_all, IsUtf8, refl, sym, ap, subst, ◌∙◌, append-nil, append_assoc, take-append-drop, drop_of_length-le, length-append, arith}
-use Rattle.std.specs.Char.{IsScalar, len_utf8, char_set_contains}
+use Rattle.std.proofs.Common.{◌≡◌, ◌<◌, ◌≤◌, ◌-◌, ◌⊎◌, inl, inr, ℕ, Bool, true, false, List, [], ◌∷◌, ◌++◌, length, reverse, take, drop, get_or, cond, Option, Some, None, IfSome, encode_utf8, encode_utf8_all, IsUtf8, refl, sym, ap, subst, ◌∙◌, append-nil, append_assoc, take-append-drop, drop_of_length-le, length-append, arith}
+use Rattle.std.specs.Char.{IsScalar, char_set_contains}
 use Rattle.std.specs.Str.{all_scalars}
 use Rattle.std.specs.Str.Pattern.{CutsPrefixes, CutsSuffixes, IsFullyTrimmed, FindsPrefixBy, FindsSuffixBy}
 use Rattle.std.proofs.lemmas.Bool.{cases_lt, and_parts}

@@ -1,5 +1,5 @@
 -- What is left to do of calls.
-use Rattle.std.proofs.Common.{◌≡◌, ℕ, pos, List, [], map, string_bytes, String, Vec, Global, Result, Ok, Err, IfOk, sym, ap, subst, ◌∙◌}
+use Rattle.std.proofs.Common.{◌≡◌, ℕ, List, [], map, string_bytes, String, Vec, Global, Result, Ok, Err, IfOk, sym, ap, subst, ◌∙◌}
 use Rattle.std.specs.declared.alloc.AllocError.{AllocError}
 use Rattle.zw_def.specs.Names.{OnlyGrows}
 use Rattle.zw_def.specs.Text.{Text}

@@ -35,7 +35,7 @@ use zw_calls::argument::Arguments;
 use zw_calls::end::{PrimEnd, integer, yes_or_no};
 use zw_calls::kind::Kind;
 use zw_calls::reading::{integer_at, text_at};
-use zw_calls::string_row::StringRow;
+use zw_calls::StringRow;
 use zw_heap::{Heap, TextRef, Value};
 use zw_meter::Meter;
 use zw_names::Names;

@@ -24,7 +24,7 @@ use std::alloc::{AllocError, Global};
 use zw_calls::argument::Arguments;
 use zw_calls::end::PrimEnd;
 use zw_calls::kind::Kind;
-use zw_calls::symbol_row::SymbolRow;
+use zw_calls::SymbolRow;
 use zw_heap::{Heap, Value};
 use zw_names::{Name, Names};
 

@@ -1,5 +1,5 @@
 //! Arrays of texts that methods make.
-ghost use Rattle.std.specs.Prelude.{◌≡◌, List, [], map, string_bytes, IfOk};
+ghost use Rattle.std.specs.Prelude.{◌≡◌, List, [], length, map, string_bytes, IfOk};
 ghost use Rattle.std.specs.List.{All};
 ghost use Rattle.zw_def.specs.Text.{Text};
 ghost use Rattle.zw_def_world.specs.StringRows.{makes_pieces};
@@ -43,6 +43,7 @@ fn pay_texts(
 fn new_texts(alloc: Global, texts: &[String], heap: &mut Heap) -> Result<Vec<Value>, AllocError>
     requires few { AreShort (map string_bytes texts.now) }
     ensures adds { AddsValues heap.old heap.new }
+    ensures count { IfOk result (λ made. length made.items ≡ length texts.now) }
     ensures held { IfOk result (λ made. All (IsIn (sizes_of heap.new)) made.items) }
     ensures flat { IfOk result (λ made. All IsFlat made.items) }
     ensures told { IfOk result (λ made. (I : Telling) (names : List Text) → Fits I names heap.new

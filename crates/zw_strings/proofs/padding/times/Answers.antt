@@ -2,7 +2,7 @@ use Rattle.std.proofs.Common.{◌≡◌, ◌*◌, ◌<◌, ◌<ℤ◌, pos, code
 use Rattle.std.proofs.lemmas.Int.{ints}
 use Rattle.zw_def_world.specs.CoreClass.{ArgumentError}
 use Rattle.zw_def_world.specs.Making.{fails, max_text, makes_text, too_long}
-use Rattle.zw_def_world.specs.StringRows.{repeated, times}
+use Rattle.zw_def_world.specs.StringRows.{times}
 use Rattle.zw_strings.proofs.PaddingLemmas.{times-negative, times-long, times-nothing, times-over}
 use Rattle.zw_strings.proofs.WorkLemmas.{all_left}
 use Rattle.zw_strings.proofs.padding.times.Goals as goal

@@ -1,5 +1,6 @@
-use Rattle.std.proofs.Common.{◌≡◌, suc, [], ◌∷◌, ◌++◌, length, map, string_bytes, ap, sym, ◌∙◌, arith}
+use Rattle.std.proofs.Common.{◌≡◌, ◌+◌, suc, [], ◌∷◌, ◌++◌, length, map, drop, string_bytes, IsUtf8, ap, sym, subst, ◌∙◌, arith}
 use Rattle.std.proofs.lemmas.List.{map-append}
+use Rattle.std.proofs.lemmas.Str.{IsUtf8-drop}
 use Rattle.zw_def_world.specs.StringRows.{cut}
 use Rattle.zw_strings.proofs.CutLemmas.{cut_once, cut-whole, piece-more}
 use Rattle.zw_strings.proofs.pieces.cut.Goals as goal
@@ -17,9 +18,13 @@ loop-piece-preserved c =
     cut_once separator c.requires rest piece after found.0 found.1 (omega (arith, found.5, found.6, found.7)) found.2.0 found.2.1.split found.3 found.4 in
     let pushed : map string_bytes c.push.new.self.items ≡ map string_bytes made ++ piece ∷ [] =
     ap (map string_bytes) c.in_ok-push.ensures.items ∙ map-append string_bytes made (one ∷ []) ∙ ap (λ t. map string_bytes made ++ t ∷ []) c.in_ok-from_str.ensures.ok in
-    ap (λ ts. ts ++ cut (suc (length after)) separator [] after) pushed
-    ∙ piece-more (map string_bytes made) (cut (suc (length after)) separator [] after) (cut (suc (length rest)) separator [] rest) piece cuts
-    ∙ c.loop-piece.invariant
+    record {
+      utf8 = subst IsUtf8 (sym (found.4 ∙ ap (λ k. drop k rest) found.2.1.ends)) (IsUtf8-drop rest (found.0 + length separator) c.loop-piece.invariant.utf8 found.2.1.after);
+      told =
+          ap (λ ts. ts ++ cut (suc (length after)) separator [] after) pushed
+          ∙ piece-more (map string_bytes made) (cut (suc (length after)) separator [] after) (cut (suc (length rest)) separator [] rest) piece cuts
+          ∙ c.loop-piece.invariant.told;
+    }
 
 pub loop-piece-smaller : goal.loop-piece-smaller
 loop-piece-smaller c =
@@ -35,4 +40,4 @@ returns c =
     let whole : cut (suc (length rest)) separator [] rest ≡ rest ∷ [] =
     cut-whole separator c.requires (suc (length rest)) [] rest (omega arith) c.in_default.ensures.cases in
     ap (map string_bytes) c.in_ok-push-2.ensures.items ∙ map-append string_bytes made (one ∷ []) ∙ ap (λ t. map string_bytes made ++ t ∷ []) c.in_ok-from_str-2.ensures.ok
-    ∙ ap (λ ts. map string_bytes made ++ ts) (sym whole) ∙ c.loop-piece.invariant
+    ∙ ap (λ ts. map string_bytes made ++ ts) (sym whole) ∙ c.loop-piece.invariant.told

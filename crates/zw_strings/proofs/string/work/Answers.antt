@@ -1,35 +1,28 @@
-use Rattle.std.proofs.Common.{[], ◌++◌, length, chars, map, pos, not, reverse, Ok, ap, sym, ◌∙◌, refl, encode_utf8}
-use Rattle.zw_def.specs.Constant.{raised, lowered, capitalized}
+use Rattle.std.proofs.Common.{length, chars, map, pos, not, Ok, ap, sym, ◌∙◌, refl, FitsSigned, rules}
+use Rattle.std.specs.Int.{w64}
+use Rattle.std.proofs.lemmas.Int.{to_z-of_z}
 use Rattle.zw_def_world.specs.Act.{gives}
-use Rattle.zw_def_world.specs.Making.{makes_text, makes_integer}
+use Rattle.zw_def_world.specs.Making.{makes_integer}
 use Rattle.zw_def_world.specs.Site.{yes_or_no}
-use Rattle.zw_def_world.specs.StringRows.{precedes, holds, begins_with, ends_with, makes_pieces, times, padding, justified_left, justified_right, number_of, of_characters, part_at, splits, stripped, without_prefix, without_suffix}
+use Rattle.zw_def_world.specs.StringRows.{precedes, holds, begins_with, ends_with, times, padding, justified_left, justified_right, number_of, part_at, splits}
 use Rattle.zw_def_world.specs.Value as told
 use Rattle.zw_heap.specs.Telling.{tell}
 use Rattle.zw_calls.specs.declared.end.PrimEnd.TheVariants as e
 use Rattle.zw_calls.specs.declared.string_row.StringRow.TheVariants as r
 use Rattle.zw_strings.specs.declared.work.Work.TheVariants as w
-use Rattle.zw_strings.proofs.WorkLemmas.{arm, text_left, texts_left, symbol_left, ended_left}
+use Rattle.zw_strings.proofs.WorkLemmas.{arm, ended_left}
 use Rattle.zw_strings.proofs.string.work.Goals as goal
-
-pub returns-in-Plus : goal.returns-in-Plus
-returns-in-Plus c =
-    let t = c.args.text.now in
-    let h = c.args.heap.now in
-    let names = c.args.names.now in
-    let other = c.text_at-other.result.now in
-    arm t c.args.args.now c.args.row h names r.Plus (λ s I. makes_text (t ++ other)) c.in-Plus.is
-    (λ s I fit. ap (λ u. makes_text (t ++ u)) (c.text_at-other.ensures I fit))
-    (Ok (w.Text c.in_ok-joined.field-0)) (text_left h names (t ++ other) c.in_ok-joined.field-0 c.in_ok-joined.ensures)
 
 pub returns-in-Times : goal.returns-in-Times
 returns-in-Times c =
     let t = c.args.text.now in
     let h = c.args.heap.now in
     let names = c.args.names.now in
+    let fits_number : FitsSigned w64 c.integer_at-number.result = search rules in
+    let made = simp to_z-of_z at (c.times.ensures h names) in
     arm t c.args.args.now c.args.row h names r.Times (λ s I. times c.integer_at-number.result t) c.in-Times.is
     (λ s I fit. ap (λ z. times z t) (c.integer_at-number.ensures I))
-    (c.times.result) (c.times.ensures h names)
+    (c.times.result) made
 
 pub returns-in-Less : goal.returns-in-Less
 returns-in-Less c =
@@ -116,42 +109,6 @@ returns-in-IsEmpty c =
     (λ s I fit. ap yes_or_no (sym c.is_empty.ensures))
     (Ok c.answered-in-IsEmpty.result) (c.answered-in-IsEmpty.ensures h names)
 
-pub returns-in-Upcase : goal.returns-in-Upcase
-returns-in-Upcase c =
-    let t = c.args.text.now in
-    let h = c.args.heap.now in
-    let names = c.args.names.now in
-    arm t c.args.args.now c.args.row h names r.Upcase (λ s I. makes_text (map raised t)) c.in-Upcase.is
-    (λ s I fit. refl)
-    (Ok (w.Text c.in_ok-upcased.field-0)) (text_left h names (map raised t) c.in_ok-upcased.field-0 c.in_ok-upcased.ensures)
-
-pub returns-in-Downcase : goal.returns-in-Downcase
-returns-in-Downcase c =
-    let t = c.args.text.now in
-    let h = c.args.heap.now in
-    let names = c.args.names.now in
-    arm t c.args.args.now c.args.row h names r.Downcase (λ s I. makes_text (map lowered t)) c.in-Downcase.is
-    (λ s I fit. refl)
-    (Ok (w.Text c.in_ok-downcased.field-0)) (text_left h names (map lowered t) c.in_ok-downcased.field-0 c.in_ok-downcased.ensures)
-
-pub returns-in-Capitalize : goal.returns-in-Capitalize
-returns-in-Capitalize c =
-    let t = c.args.text.now in
-    let h = c.args.heap.now in
-    let names = c.args.names.now in
-    arm t c.args.args.now c.args.row h names r.Capitalize (λ s I. makes_text (capitalized t)) c.in-Capitalize.is
-    (λ s I fit. refl)
-    (Ok (w.Text c.in_ok-capitalized.field-0)) (text_left h names (capitalized t) c.in_ok-capitalized.field-0 c.in_ok-capitalized.ensures)
-
-pub returns-in-Reverse : goal.returns-in-Reverse
-returns-in-Reverse c =
-    let t = c.args.text.now in
-    let h = c.args.heap.now in
-    let names = c.args.names.now in
-    arm t c.args.args.now c.args.row h names r.Reverse (λ s I. makes_text (of_characters (reverse (chars t)))) c.in-Reverse.is
-    (λ s I fit. refl)
-    (Ok (w.Text c.in_ok-reversed.field-0)) (text_left h names (of_characters (reverse (chars t))) c.in_ok-reversed.field-0 c.in_ok-reversed.ensures)
-
 pub returns-in-Includes : goal.returns-in-Includes
 returns-in-Includes c =
     let t = c.args.text.now in
@@ -191,32 +148,14 @@ returns-in-At c =
     (λ s I fit. refl)
     (c.part_at.result) (c.part_at.ensures h names)
 
-pub returns-in-ToI : goal.returns-in-ToI
-returns-in-ToI c =
+pub returns-in_ok-integer-in-ToI : goal.returns-in_ok-integer-in-ToI
+returns-in_ok-integer-in-ToI c =
     let t = c.args.text.now in
     let h = c.args.heap.now in
     let names = c.args.names.now in
     arm t c.args.args.now c.args.row h names r.ToI (λ s I. makes_integer (number_of t)) c.in-ToI.is
     (λ s I fit. refl)
-    (Ok (w.Ended c.in_ok-integer.field-0)) (ended_left h names (λ I. makes_integer (number_of t)) c.in_ok-integer.field-0 (c.in_ok-integer.ensures (number_of t) c.number_of.ensures))
-
-pub returns-in-ToSym : goal.returns-in-ToSym
-returns-in-ToSym c =
-    let t = c.args.text.now in
-    let h = c.args.heap.now in
-    let names = c.args.names.now in
-    arm t c.args.args.now c.args.row h names r.ToSym (λ s I. gives (told.symbol t)) c.in-ToSym.is
-    (λ s I fit. refl)
-    (Ok (w.Symbol c.in_ok-from_str.field-0)) (symbol_left h names t c.in_ok-from_str.field-0 c.in_ok-from_str.ensures.ok)
-
-pub returns-in-Strip : goal.returns-in-Strip
-returns-in-Strip c =
-    let t = c.args.text.now in
-    let h = c.args.heap.now in
-    let names = c.args.names.now in
-    arm t c.args.args.now c.args.row h names r.Strip (λ s I. makes_text (stripped t)) c.in-Strip.is
-    (λ s I fit. refl)
-    (Ok (w.Text c.in_ok-from_str-in-Strip.field-0)) (text_left h names (stripped t) c.in_ok-from_str-in-Strip.field-0 (c.in_ok-from_str-in-Strip.ensures.ok ∙ c.stripped.ensures))
+    (Ok (w.Ended c.in_ok-integer-in-ToI.field-0)) (ended_left h names (λ I. makes_integer (number_of t)) c.in_ok-integer-in-ToI.field-0 (c.in_ok-integer-in-ToI.ensures (number_of t) c.number_of.ensures))
 
 pub returns-in-Split : goal.returns-in-Split
 returns-in-Split c =
@@ -228,49 +167,24 @@ returns-in-Split c =
     (λ s I fit. ap (splits t) (c.text_at-other.ensures I fit))
     (c.split_by.result) (c.split_by.ensures h names)
 
-pub returns-in-Chars : goal.returns-in-Chars
-returns-in-Chars c =
-    let t = c.args.text.now in
-    let h = c.args.heap.now in
-    let names = c.args.names.now in
-    arm t c.args.args.now c.args.row h names r.Chars (λ s I. makes_pieces [] (map encode_utf8 (chars t))) c.in-Chars.is
-    (λ s I fit. refl)
-    (Ok (w.Texts c.in_ok-each.field-0)) (texts_left h names (map encode_utf8 (chars t)) c.in_ok-each.field-0 c.in_ok-each.ensures)
-
 pub returns-in-Ljust : goal.returns-in-Ljust
 returns-in-Ljust c =
     let t = c.args.text.now in
     let h = c.args.heap.now in
     let names = c.args.names.now in
+    let fits_number : FitsSigned w64 c.integer_at-number.result = search rules in
+    let made = simp to_z-of_z at (c.left_justified.ensures h names) in
     arm t c.args.args.now c.args.row h names r.Ljust (λ s I. justified_left (padding c.integer_at-number.result t) t) c.in-Ljust.is
     (λ s I fit. ap (λ z. justified_left (padding z t) t) (c.integer_at-number.ensures I))
-    (c.left_justified.result) (c.left_justified.ensures h names)
+    (c.left_justified.result) made
 
 pub returns-in-Rjust : goal.returns-in-Rjust
 returns-in-Rjust c =
     let t = c.args.text.now in
     let h = c.args.heap.now in
     let names = c.args.names.now in
+    let fits_number : FitsSigned w64 c.integer_at-number.result = search rules in
+    let made = simp to_z-of_z at (c.right_justified.ensures h names) in
     arm t c.args.args.now c.args.row h names r.Rjust (λ s I. justified_right (padding c.integer_at-number.result t) t) c.in-Rjust.is
     (λ s I fit. ap (λ z. justified_right (padding z t) t) (c.integer_at-number.ensures I))
-    (c.right_justified.result) (c.right_justified.ensures h names)
-
-pub returns-in-DeletePrefix : goal.returns-in-DeletePrefix
-returns-in-DeletePrefix c =
-    let t = c.args.text.now in
-    let h = c.args.heap.now in
-    let names = c.args.names.now in
-    let other = c.text_at-other.result.now in
-    arm t c.args.args.now c.args.row h names r.DeletePrefix (λ s I. makes_text (without_prefix other t)) c.in-DeletePrefix.is
-    (λ s I fit. ap (λ u. makes_text (without_prefix u t)) (c.text_at-other.ensures I fit))
-    (Ok (w.Text c.in_ok-from_str-in-DeletePrefix.field-0)) (text_left h names (without_prefix other t) c.in_ok-from_str-in-DeletePrefix.field-0 (c.in_ok-from_str-in-DeletePrefix.ensures.ok ∙ c.without_prefix.ensures))
-
-pub returns-in-DeleteSuffix : goal.returns-in-DeleteSuffix
-returns-in-DeleteSuffix c =
-    let t = c.args.text.now in
-    let h = c.args.heap.now in
-    let names = c.args.names.now in
-    let other = c.text_at-other.result.now in
-    arm t c.args.args.now c.args.row h names r.DeleteSuffix (λ s I. makes_text (without_suffix other t)) c.in-DeleteSuffix.is
-    (λ s I fit. ap (λ u. makes_text (without_suffix u t)) (c.text_at-other.ensures I fit))
-    (Ok (w.Text c.in_ok-from_str-in-DeleteSuffix.field-0)) (text_left h names (without_suffix other t) c.in_ok-from_str-in-DeleteSuffix.field-0 (c.in_ok-from_str-in-DeleteSuffix.ensures.ok ∙ c.without_suffix.ensures))
+    (c.right_justified.result) made
