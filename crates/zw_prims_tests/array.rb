@@ -16,7 +16,6 @@ def item(value)
   when nil then 'Nil'
   when true then 'True'
   when false then 'False'
-  when false then 'False'
   when Integer then "Int(#{number(value)})"
   when String then "Text(#{value.inspect})"
   when Symbol then "Symbol(#{value.to_s.inspect})"
@@ -25,6 +24,8 @@ def item(value)
 end
 
 def list(values)
+  return 'MIXED' if values.equal?(MIXED)
+
   "&[#{values.map { |v| item(v) }.join(', ')}]"
 end
 

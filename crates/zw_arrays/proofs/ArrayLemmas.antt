@@ -1,15 +1,17 @@
 -- What methods of Array do: by the items of an array, and act after act.
-use Rattle.std.proofs.Common.{◌≡◌, ℕ, ◌+◌, ◌-◌, ◌<◌, ◌≤◌, Bool, true, false, nat_lt, ℤ, pos, negsuc, ◌<ℤ◌, unsigned_abs, zero, suc, List, [], ◌∷◌, ◌++◌, length, map, take, drop, filter, get_or, reverse, min, not, codes, Option, Some, None, slice_get, Result, Ok, Err, IfOk, refl, sym, ap, subst, cond, ◌∙◌, arith}
+use Rattle.std.proofs.Common.{◌≡◌, ℕ, ◌+◌, ◌-◌, ◌<◌, ◌≤◌, Bool, true, false, ℤ, pos, negsuc, ◌<ℤ◌, unsigned_abs, zero, suc, List, [], ◌∷◌, ◌++◌, length, map, take, drop, filter, get_or, reverse, min, not, codes, Option, Result, Ok, Err, IfOk, FitsSigned, refl, sym, ap, cond, ◌∙◌, arith}
 use Rattle.std.proofs.lemmas.Bool.{le-ltb, lt-ltb}
 use Rattle.std.proofs.lemmas.Int.{ints}
+use Rattle.std.specs.Int.{FitsUnsignedBits, w64}
+use Rattle.std.specs.Result.{OkIff, result_ok}
 use Rattle.std.specs.List.{All}
-use Rattle.std.proofs.lemmas.List.{length-map, map-append, append_assoc, take-map, take_min, drop_min}
+use Rattle.std.proofs.lemmas.List.{map-append, append_assoc, take-map, take_min, drop_min}
 use Rattle.zw_lemmas.proofs.ListLemmas.{reverse-map}
 use Rattle.std.proofs.lemmas.List.Elements.{All-push}
 use Rattle.std.specs.declared.alloc.AllocError.{AllocError}
 use Rattle.zw_def.specs.Text.{Text}
-use Rattle.zw_def_world.specs.Act.{Act, Point, ◌>>=◌, go_on, continued, gives, paid}
-use Rattle.zw_def_world.specs.ArrayRows.{array_act, item_at, last_value, is_some_value, uniques, without_items, kept_unless, index_from, sum_of, integers_tested}
+use Rattle.zw_def_world.specs.Act.{Act, Point, go_on, continued, gives}
+use Rattle.zw_def_world.specs.ArrayRows.{array_act, item_at, last_value, is_some_value, uniques, without_items, kept_unless}
 use Rattle.zw_def_world.specs.CoreClass.{ArgumentError}
 use Rattle.zw_def_world.specs.Equality.{among}
 use Rattle.zw_def_world.specs.IntegerRows.{counted}
@@ -24,7 +26,8 @@ use Rattle.zw_heap.specs.declared.value.Value.TheVariants as v
 use Rattle.zw_heap.specs.declared.value.ArrayRef.{ArrayRef}
 use Rattle.zw_arrays.specs.Answer.{answer_seen}
 use Rattle.zw_calls.specs.ArrayRow.{array_row_seen}
-use Rattle.zw_calls.specs.End.{Performs, AddsValues, IsDone, end_seen}
+use Rattle.zw_calls.specs.End.{Performs, IsDone, end_seen}
+use Rattle.zw_calls.specs.Integer.{IsInRange}
 use Rattle.zw_calls.specs.declared.end.PrimEnd.{PrimEnd}
 use Rattle.zw_calls.specs.declared.end.PrimEnd.TheVariants as e
 use Rattle.zw_calls.specs.declared.array_row.ArrayRow.{ArrayRow}
@@ -40,11 +43,11 @@ ends_as I one other p (e.Raise r) done = refl
 ends_as I one other p e.Budget done = refl
 ends_as I one other p (e.Again prim) done = absurd done
 
-module _ (g : Held) (names : List Text) (left middle later : ℕ) (act one : Telling → Act) (goes : (I : Telling) (p : Point) → Fits I names g → p.left ≡ left → act I p ≡ one I (record p { left = middle })) where
+module _ (g : Held) (names : List Text) (left middle later : ℕ) (act one : Telling → Act) (goes : (I : Telling) (p : Point) → Fits I names g → Agrees I g p.world → p.left ≡ left → act I p ≡ one I (record p { left = middle })) where
   pub goes_on : (end : PrimEnd) → Performs (λ s I. one I) g names middle later end → Performs (λ s I. act I) g names left later end
   goes_on end performs = record {
     told = λ s I p fit agrees e.
-        goes I p fit e ∙ performs.told s I (record p { left = middle }) fit (record { modules = agrees.modules; objects = agrees.objects }) refl
+        goes I p fit agrees e ∙ performs.told s I (record p { left = middle }) fit (record { modules = agrees.modules; objects = agrees.objects }) refl
         ∙ ends_as I (one I) (act I) (record p { left = later }) end performs.done;
     held = performs.held;
     done = performs.done;
@@ -57,8 +60,8 @@ module _ (g : Held) (names : List Text) (left middle later : ℕ) (act one : Tel
 -- ---- an act that is another one by each telling that fits
 
 module _ (g : Held) (names : List Text) (left later : ℕ) (act one : Telling → Act) (same : (I : Telling) → Fits I names g → act I ≡ one I) where
-  goes : (I : Telling) (p : Point) → Fits I names g → p.left ≡ left → act I p ≡ one I (record p { left = left })
-  goes I p fit e = ap (λ (a : Act). a p) (same I fit) ∙ ap (λ n. one I (record p { left = n })) e
+  goes : (I : Telling) (p : Point) → Fits I names g → Agrees I g p.world → p.left ≡ left → act I p ≡ one I (record p { left = left })
+  goes I p fit agrees e = ap (λ (a : Act). a p) (same I fit) ∙ ap (λ n. one I (record p { left = n })) e
 
   pub fitting : (end : PrimEnd) → Performs (λ s I. one I) g names left later end → Performs (λ s I. act I) g names left later end
   fitting end performs = goes_on g names left left later act one goes end performs
@@ -96,7 +99,7 @@ All-kept P true xs x all one = all
 All-kept P false xs x all one = All-push P xs x all one
 
 -- the next item is compared with those that are kept, or with others
-module _ (I : Telling) (xs kept : List Value) (i : ℕ) (x : Value) (lt : i < length xs) (at : x ≡ get_or xs i x) (p : Point) (later : ℕ) (answer : Option Bool) where
+module _ (I : Telling) (xs kept : List Value) (i : ℕ) (x : Value) (lt : i < length xs) (at : x ≡ get_or xs i v.Nil) (p : Point) (later : ℕ) (answer : Option Bool) where
   pub uniques-step : among (tell I x) (map (tell I) kept) p ≡ answer_seen answer (record p { left = later }) → uniques (map (tell I) kept) (map (tell I) (drop i xs)) p ≡ continued (go_on (λ found. uniques (kept_unless (tell I x) (map (tell I) kept) found) (map (tell I) (drop (i + 1) xs)))) (answer_seen answer (record p { left = later }))
   uniques-step ends =
       ap (λ ys. uniques (map (tell I) kept) (map (tell I) ys) p) (drop-read xs i x lt at)
@@ -149,7 +152,17 @@ module _ {A B : Type 0} (f : A → B) where
     pub dropped-is : (n : ℕ) (all : List A) → all ≡ drop (min n (length xs)) xs → drop n us ≡ map f all
     dropped-is n all is = ap (drop n) items ∙ drop-map n xs ∙ ap (map f) (sym (drop_min n xs) ∙ sym is)
 
+-- ---- integers in range
+
+pub ok-in_range : {E : Type 0} (r : Result ℤ E) (z : ℤ) → OkIff r (FitsSigned w64 z) z → IsInRange (result_ok r) z
+ok-in_range (Ok x) z exact = exact
+ok-in_range (Err e) z exact = exact
+
 -- ---- counts
+
+pub counted-is : (z : ℤ) (n : ℕ) → FitsUnsignedBits 64 z → n ≡ unsigned_abs z → z ≡ pos n
+counted-is (pos m) n fits is = ap pos (sym is)
+counted-is (negsuc m) n fits is = absurd fits
 
 pub counted-up : (k : ℕ → Act) (z : ℤ) (n : ℕ) → z ≡ pos n → counted k z ≡ k n
 counted-up k z n e = ap (counted k) e
@@ -159,6 +172,17 @@ counted-down k (pos n) low = absurd (omega (arith, ints))
 counted-down k (negsuc n) low = refl
 
 -- ---- nil is left out
+
+pub some-is : (I : Telling) (x : Value) → (x ≡ v.Nil → ⊥) → is_some_value (tell I x) ≡ true
+some-is I v.Nil other = absurd (other refl)
+some-is I v.True other = refl
+some-is I v.False other = refl
+some-is I (v.Int z) other = refl
+some-is I (v.Text t) other = refl
+some-is I (v.Sym n) other = refl
+some-is I (v.Array a) other = refl
+some-is I (v.Object o) other = refl
+some-is I (v.Module m) other = refl
 
 pub some-kept : (I : Telling) (x : Value) (b : Bool) (vs : List told.Value) → is_some_value (tell I x) ≡ not b → filter is_some_value (tell I x ∷ vs) ≡ cond b (filter is_some_value vs) (tell I x ∷ filter is_some_value vs)
 some-kept I x true vs is = ap (λ a. cond a (tell I x ∷ filter is_some_value vs) (filter is_some_value vs)) is

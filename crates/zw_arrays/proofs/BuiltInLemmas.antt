@@ -1,5 +1,5 @@
 -- Each value of a heap has a built-in text, in each world that agrees with the heap.
-use Rattle.std.proofs.Common.{◌≡◌, ℕ, zero, suc, ◌<◌, Bool, true, false, List, [], ◌∷◌, ◌++◌, codes, length, get_or, map, slice_get, Option, Some, None, refl, sym, ap, subst, cond, ◌∙◌, arith}
+use Rattle.std.proofs.Common.{◌≡◌, ℕ, zero, suc, ◌<◌, Bool, true, false, List, [], ◌∷◌, ◌++◌, codes, length, get_or, map, slice_get, Option, Some, None, refl, ap, subst, cond, ◌∙◌, arith}
 use Rattle.std.specs.Fmt.{signed_decimal}
 use Rattle.std.specs.Option.{option_map}
 use Rattle.std.specs.List.{All}
@@ -7,19 +7,16 @@ use Rattle.std.proofs.lemmas.List.Elements.{All-head, All-tail}
 use Rattle.std.proofs.lemmas.Option.{slice_get-get_or}
 use Rattle.zw_def.specs.Text.{Text}
 use Rattle.zw_def_world.specs.Ancestor.{makes_exceptions}
-use Rattle.zw_def_world.specs.CoreClass.{is_main}
-use Rattle.zw_def_world.specs.Id.{Id}
+use Rattle.zw_def_world.specs.CoreClass.{Exception, is_main}
 use Rattle.zw_def_world.specs.Inspect.{module_text, class_text, kept_or_class, message_of, is_exception, exception_text, message_behind, plain_text, object_text, inspected, inspected_items, inspected_more, object_built_in, built_in, truth_text}
 use Rattle.zw_def_world.specs.Missing.{bind}
 use Rattle.zw_def_world.specs.Quote.{quoted, symbol_text}
-use Rattle.zw_def_world.specs.Record as told_record
 use Rattle.zw_def_world.specs.Value as told
 use Rattle.zw_def_world.specs.World.{World}
-use Rattle.zw_heap.specs.Heap as heap
 use Rattle.zw_heap.specs.Heap.{Held, Row, sizes_of}
-use Rattle.zw_heap.specs.ModuleRecord.{Module}
 use Rattle.zw_heap.specs.ObjectRecord.{Object}
 use Rattle.zw_heap.specs.Sound.{IsSound, IsIn, IsBelow, ObjectIn}
+use Rattle.zw_heap.specs.Superclass.{descends}
 use Rattle.zw_heap.specs.Telling.{Telling, Fits, Agrees, tell, told_object}
 use Rattle.zw_heap.specs.declared.value.Value.{Value}
 use Rattle.zw_heap.specs.declared.value.Value.TheVariants as v
@@ -132,7 +129,7 @@ module _ (I : Telling) (names : List Text) (h : Held) (w : World) (fit : Fits I 
 
   -- ---- built-in texts
 
-  pub there-text : (x : Value) → IsIn (sizes_of h) x → IsThere (built_in w (tell I x))
+  there-text : (x : Value) → IsIn (sizes_of h) x → IsThere (built_in w (tell I x))
   there-text v.Nil within = ([], refl)
   there-text (v.Text t) within = (I.text t.0, refl)
   there-text (v.Sym n) within = (I.name n.0, refl)
@@ -145,3 +142,7 @@ module _ (I : Telling) (names : List Text) (h : Held) (w : World) (fit : Fits I 
   there-text (v.Int z) within = (signed_decimal z, refl)
   there-text (v.Array a) within = there-inspected (length h.arrays) shown-all (v.Array a) within within
   there-text (v.Module m) within = there-class m.0 within
+
+pub all-there : (I : Telling) (names : List Text) (h : Held) (w : World) → Fits I names h → Agrees I h w → IsSound h → ((class : ℕ) → class < length h.modules → makes_exceptions w (I.module_id class) ≡ Some (descends h.modules Exception.count class)) → (xs : List Value) → All (IsIn (sizes_of h)) xs → All (λ x. IsThere (built_in w (tell I x))) xs
+all-there I names h w fit agrees sound told xs held = λ k d lt.
+    there-text I names h w fit agrees sound (λ class low. (descends h.modules Exception.count class, told class low)) (get_or xs k d) (held k d lt)

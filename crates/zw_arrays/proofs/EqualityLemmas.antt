@@ -1,9 +1,9 @@
 -- Comparisons of values: by what names are told, and step by step.
-use Rattle.std.proofs.Common.{◌≡◌, ℕ, ◌+◌, ◌-◌, ◌<◌, ◌≤◌, ◌&&◌, ℤ, pos, Bool, true, false, nat_lt, ◌==◌, List, [], ◌∷◌, length, map, drop, get_or, slice_get, Option, Some, None, ◌⊎◌, inl, inr, ◌↔◌, IsTrue, refl, sym, ap, subst, cond, ◌∙◌, arith, Decides}
+use Rattle.std.proofs.Common.{◌≡◌, ℕ, ◌+◌, ◌-◌, ◌<◌, ◌≤◌, ◌&&◌, pos, Bool, true, false, nat_lt, ◌==◌, List, ◌∷◌, length, map, drop, get_or, slice_get, Option, Some, None, ◌⊎◌, inl, inr, ◌↔◌, IsTrue, refl, sym, ap, cond, ◌∙◌, arith, Decides}
 use Rattle.std.specs.Option.{option_map}
 use Rattle.std.specs.Str.{bytes_eq}
 use Rattle.std.specs.Cmp.Lexicographic.{pointwise_decides}
-use Rattle.std.proofs.lemmas.Bool.{eqb-true, eq-eqb, le-ltb, cases_lt}
+use Rattle.std.proofs.lemmas.Bool.{eqb-true, eq-eqb, ne_eqb, le-ltb, cases_lt}
 use Rattle.std.proofs.lemmas.Bool.Decides.{same_from_decides, Decides-like, Decides-eqb}
 use Rattle.std.proofs.lemmas.List.{drop_more, length-map}
 use Rattle.std.proofs.lemmas.Slice.Eq.{bytes_eq-Decides}
@@ -67,10 +67,10 @@ module _ (act : Act) (k : Value → Act) (p : Point) where
 -- ---- lists that are walked
 
 -- what is left of a list, at a place that was read
-pub drop-read : {A : Type 0} (xs : List A) (i : ℕ) (x : A) → i < length xs → x ≡ get_or xs i x → drop i xs ≡ x ∷ drop (i + 1) xs
-drop-read xs i x lt is = drop_more xs i x lt ∙ ap (λ y. y ∷ drop (i + 1) xs) (sym is)
+pub drop-read : (xs : List Item) (i : ℕ) (x : Item) → i < length xs → x ≡ get_or xs i v.Nil → drop i xs ≡ x ∷ drop (i + 1) xs
+drop-read xs i x lt is = drop_more xs i v.Nil lt ∙ ap (λ y. y ∷ drop (i + 1) xs) (sym is)
 
-pub at-pair : (I : Telling) (xs ys : List Item) (i : ℕ) (x y : Item) → i < length xs → i < length ys → x ≡ get_or xs i x → y ≡ get_or ys i y → same_items (array_of (map (tell I) (drop i xs))) (array_of (map (tell I) (drop i ys))) ≡ (paid 1 (same (tell I x) (tell I y)) >>= if_same (same_items (array_of (map (tell I) (drop (i + 1) xs))) (array_of (map (tell I) (drop (i + 1) ys)))))
+pub at-pair : (I : Telling) (xs ys : List Item) (i : ℕ) (x y : Item) → i < length xs → i < length ys → x ≡ get_or xs i v.Nil → y ≡ get_or ys i v.Nil → same_items (array_of (map (tell I) (drop i xs))) (array_of (map (tell I) (drop i ys))) ≡ (paid 1 (same (tell I x) (tell I y)) >>= if_same (same_items (array_of (map (tell I) (drop (i + 1) xs))) (array_of (map (tell I) (drop (i + 1) ys)))))
 at-pair I xs ys i x y less fewer one other = λ j.
     same_items (array_of (map (tell I) (drop-read xs i x less one j))) (array_of (map (tell I) (drop-read ys i y fewer other j)))
 
@@ -80,6 +80,17 @@ same-arrays I names h m n xs ys fit one other =
     (λ j. same (array (fit.arrays_told m xs one j)) (array (fit.arrays_told n ys other j)))
     ∙ (λ j. if_lengths (items-array (map (tell I) xs) j) (items-array (map (tell I) ys) j) (same_items (array_of (map (tell I) xs)) (array_of (map (tell I) ys))))
     ∙ (λ j. cond (length-map xs (tell I) j == length-map ys (tell I) j) (same_items (array_of (map (tell I) xs)) (array_of (map (tell I) ys))) (gives (truth false)))
+
+module _ (I : Telling) (names : List Text) (h : Held) (m n : ℕ) (xs ys : List Item) (fit : Fits I names h) (one : option_map (λ (r : Row). r.items) (slice_get h.arrays m) ≡ Some xs) (other : option_map (λ (r : Row). r.items) (slice_get h.arrays n) ≡ Some ys) where
+  pub same-sized : length xs ≡ length ys → same (array (I.array m)) (array (I.array n)) ≡ same_items (array_of (map (tell I) xs)) (array_of (map (tell I) ys))
+  same-sized sizes =
+      same-arrays I names h m n xs ys fit one other
+      ∙ ap (λ b. cond b (same_items (array_of (map (tell I) xs)) (array_of (map (tell I) ys))) (gives (truth false))) (eq-eqb (length xs) (length ys) sizes)
+
+  pub other-sized : (length xs ≡ length ys → ⊥) → same (array (I.array m)) (array (I.array n)) ≡ gives (truth false)
+  other-sized sizes =
+      same-arrays I names h m n xs ys fit one other
+      ∙ ap (λ b. cond b (same_items (array_of (map (tell I) xs)) (array_of (map (tell I) ys))) (gives (truth false))) (ne_eqb (length xs) (length ys) sizes)
 
 -- ---- names of records
 
@@ -137,7 +148,7 @@ module _ (act : Act) (k : Value → Act) (p : Point) (left later : ℕ) (answer 
 
 -- ---- items that are looked at
 
-module _ (I : Telling) (xs : List Item) (i : ℕ) (x : Item) (lt : i < length xs) (at : x ≡ get_or xs i x) (v : Value) where
+module _ (I : Telling) (xs : List Item) (i : ℕ) (x : Item) (lt : i < length xs) (at : x ≡ get_or xs i v.Nil) (v : Value) where
   pub among-at : among v (map (tell I) (drop i xs)) ≡ (paid 1 (same (tell I x) v) >>= (λ found. cond (is_true found) (gives (truth true)) (among v (map (tell I) (drop (i + 1) xs)))))
   among-at = ap (λ ys. among v (map (tell I) ys)) (drop-read xs i x lt at)
 

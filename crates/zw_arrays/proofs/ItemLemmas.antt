@@ -6,7 +6,7 @@ use Rattle.std.proofs.lemmas.Bool.{le-ltb}
 use Rattle.std.proofs.lemmas.List.{length-append, length-map, append_assoc}
 use Rattle.std.proofs.lemmas.List.Elements.{All-nil, All-cons, All-head, All-tail, All-weaker}
 use Rattle.std.proofs.lemmas.Option.{slice_get-get_or, slice_get_within, get_or_from_slice_get}
-use Rattle.zw_lemmas.proofs.PlaceLemmas.{slice_get-front, slice_get-last}
+use Rattle.zw_lemmas.proofs.PlaceLemmas.{slice_get-front}
 use Rattle.zw_def.specs.Text.{Text}
 use Rattle.zw_def_world.specs.Act.{gives, paid}
 use Rattle.zw_def_world.specs.CoreClass.{RangeError}

@@ -1,9 +1,13 @@
 -- Texts that are joined item by item.
-use Rattle.std.proofs.Common.{◌≡◌, ℕ, zero, suc, ◌+◌, ◌<◌, ◌≤◌, List, [], ◌∷◌, ◌++◌, length, get_or, map, drop, Option, Some, None, refl, sym, ap, ◌∙◌, arith, append_assoc}
+use Rattle.std.proofs.Common.{◌≡◌, ℕ, zero, suc, ◌+◌, ◌<◌, List, [], ◌∷◌, ◌++◌, length, get_or, map, drop, Option, Some, None, Result, Ok, Err, refl, sym, ap, subst, ◌∙◌, arith, append_assoc}
 use Rattle.std.specs.Option.{option_map}
 use Rattle.std.specs.List.{All}
 use Rattle.std.proofs.lemmas.List.{append-nil, length-append}
 use Rattle.std.proofs.lemmas.List.Elements.{All-head, All-tail, All-drop}
+use Rattle.std.specs.Result.{IsErrAnd}
+use Rattle.zw_base.specs.Fault.{IfReason, IfRefused}
+use Rattle.zw_base.specs.declared.fault.Fault.{Fault}
+use Rattle.zw_base.specs.declared.fault.Fault.TheVariants.{Refused, Memory}
 use Rattle.zw_def.specs.Text.{Text}
 use Rattle.zw_def_world.specs.ArrayRows.{join_texts, joined_by}
 use Rattle.zw_def_world.specs.Inspect.{built_in}
@@ -13,9 +17,26 @@ use Rattle.zw_def_world.specs.Value as told
 use Rattle.zw_def_world.specs.World.{World}
 use Rattle.zw_heap.specs.Telling.{Telling, tell}
 use Rattle.zw_heap.specs.declared.value.Value.{Value}
+use Rattle.zw_heap.specs.declared.value.Value.TheVariants as v
 use Rattle.zw_arrays.specs.Joined.{separated}
 use Rattle.zw_arrays.proofs.BuiltInLemmas.{IsThere}
 use Rattle.zw_arrays.proofs.EqualityLemmas.{drop-read}
+
+-- ---- refusals that are handed on
+
+pub err_is : {X E : Type 0} (r : Result X E) (f : E) → IsErrAnd r (λ e. e ≡ f) → r ≡ Err f
+err_is (Ok x) f a = absurd a
+err_is (Err e) f a = ap Err a
+
+refused-for : {E : Type 0} (f : Fault E) (P Q : Type 0) → (P → Q) → IfReason f (λ refusal. P) → IfReason f (λ refusal. Q)
+refused-for (Refused refusal) P Q follows holds = follows holds
+refused-for Memory P Q follows holds = holds
+
+-- a call that refuses for the reason of another one
+pub handed-on : {X E : Type 0} (r : Result X (Fault E)) (f : Fault E) (P Q : Type 0) → IsErrAnd r (λ e. e ≡ f) → (P → Q) → IfReason f (λ refusal. P) → IfRefused r (λ refusal. Q)
+handed-on r f P Q is follows holds = subst (λ s. IfRefused s (λ refusal. Q)) (sym (err_is r f is)) (refused-for f P Q follows holds)
+
+-- ---- texts of items
 
 -- the texts of items from that place on
 abbrev pub joined_from : World → Text → ℕ → List told.Value → Option Text
@@ -71,7 +92,7 @@ behind-start None = refl
 behind-start (Some t) = refl
 
 -- the next item is joined behind the text so far
-module _ (w : World) (separator : Text) (I : Telling) (xs : List Value) (i : ℕ) (x : Value) (lt : i < length xs) (at : x ≡ get_or xs i x) (front written later t : Text) (separates : written ≡ front ++ separated separator i) (writes : later ≡ written ++ t) (is : built_in w (tell I x) ≡ Some t) where
+module _ (w : World) (separator : Text) (I : Telling) (xs : List Value) (i : ℕ) (x : Value) (lt : i < length xs) (at : x ≡ get_or xs i v.Nil) (front written later t : Text) (separates : written ≡ front ++ separated separator i) (writes : later ≡ written ++ t) (is : built_in w (tell I x) ≡ Some t) where
   pub behind-next : joined_behind w separator front i (map (tell I) (drop i xs)) ≡ joined_behind w separator later (i + 1) (map (tell I) (drop (i + 1) xs))
   behind-next =
       let next : i + 1 ≡ suc i = omega arith in

@@ -1,5 +1,4 @@
-use Rattle.std.proofs.Common.{◌++◌, reverse, filter, map, ap}
-use Rattle.zw_def_world.specs.ArrayRows.{is_some_value}
+use Rattle.std.proofs.Common.{◌≡◌, ◌++◌, map, ap, ◌∙◌}
 use Rattle.zw_def_world.specs.Making.{makes_array}
 use Rattle.zw_def_world.specs.Value.{items_in}
 use Rattle.zw_heap.specs.Telling.{tell}
@@ -11,5 +10,6 @@ pub returns-clause-performs : goal.returns-clause-performs
 returns-clause-performs c = λ names.
     let g = c.array_of.new.heap in
     let made = c.as_slice.result.now in
+    let all : made ≡ c.items.result.now ++ c.items_of.result.now = c.as_slice.ensures.value ∙ c.in_ok-extend_from_slice.ensures.items ∙ ap (λ xs. xs ++ c.items_of.result.now) c.in_ok-all.ensures.items in
     all_fitting g names c.args.meter.now.left c.array_of.new.meter.left (λ I. makes_array (items_in (tell I (v.Array c.args.array)) ++ items_in (tell I c.args.other))) (λ I. makes_array (map (tell I) made))
-    (λ I fit. let old = c.array_of.ensures.adds.adds I names fit in ap makes_array (plus-is (tell I) (items_in (tell I (v.Array c.args.array))) c.items.result.now (c.items.ensures.told I names old) (items_in (tell I c.args.other)) c.items_of.result.now made (c.items_of.ensures.told I names old) ?)) c.array_of.result (c.array_of.ensures.performs names)
+    (λ I fit. let old = c.array_of.ensures.adds.adds I names fit in ap makes_array (plus-is (tell I) (items_in (tell I (v.Array c.args.array))) c.items.result.now (c.items.ensures.told I names old) (items_in (tell I c.args.other)) c.items_of.result.now made (c.items_of.ensures.told I names old) all)) c.array_of.result (c.array_of.ensures.performs names)

@@ -1,4 +1,4 @@
-use Rattle.std.proofs.Common.{◌≡◌, ℕ, List, drop, map}
+use Rattle.std.proofs.Common.{◌≡◌, List, drop, map}
 use Rattle.zw_def.specs.Text.{Text}
 use Rattle.zw_def_world.specs.Act.{Point}
 use Rattle.zw_def_world.specs.ArrayRows.{index_from}
