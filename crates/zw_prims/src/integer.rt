@@ -22,9 +22,9 @@ ghost use Rattle.zw_calls.specs.Integer.{IsInRange};
 ghost use Rattle.zw_calls.specs.IntegerRow.{integer_row_seen};
 
 use std::alloc::{AllocError, Global};
+use zw_calls::IntegerRow;
 use zw_calls::argument::Arguments;
 use zw_calls::end::{PrimEnd, integer, raise, yes_or_no};
-use zw_calls::integer_row::IntegerRow;
 use zw_calls::kind::Kind;
 use zw_calls::making::flat_array;
 use zw_calls::reading::{integer_at, value_at};

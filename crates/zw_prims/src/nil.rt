@@ -14,10 +14,10 @@ ghost use Rattle.zw_calls.specs.End.{Performs, AddsValues, MakesOnlyPaid};
 ghost use Rattle.zw_calls.specs.NilRow.{nil_row_seen};
 
 use std::alloc::{AllocError, Global};
+use zw_calls::NilRow;
 use zw_calls::argument::Arguments;
 use zw_calls::end::PrimEnd;
 use zw_calls::making::flat_array;
-use zw_calls::nil_row::NilRow;
 use zw_heap::{Heap, Value};
 use zw_meter::Meter;
 use zw_names::Names;

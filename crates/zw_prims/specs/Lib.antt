@@ -1,0 +1,4 @@
+pub mod Marked
+pub mod Receives
+pub mod Passes
+pub mod Does
