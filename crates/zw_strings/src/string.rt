@@ -31,11 +31,11 @@ use crate::text::{
 };
 use crate::work::{Work, perform};
 use std::alloc::{AllocError, Global};
+use zw_calls::StringRow;
 use zw_calls::argument::Arguments;
 use zw_calls::end::{PrimEnd, integer, yes_or_no};
 use zw_calls::kind::Kind;
 use zw_calls::reading::{integer_at, text_at};
-use zw_calls::StringRow;
 use zw_heap::{Heap, TextRef, Value};
 use zw_meter::Meter;
 use zw_names::Names;

@@ -21,10 +21,10 @@ ghost use Rattle.zw_calls.specs.SymbolRow.{symbol_row_seen};
 use crate::characters::size;
 use crate::text::compared;
 use std::alloc::{AllocError, Global};
+use zw_calls::SymbolRow;
 use zw_calls::argument::Arguments;
 use zw_calls::end::PrimEnd;
 use zw_calls::kind::Kind;
-use zw_calls::SymbolRow;
 use zw_heap::{Heap, Value};
 use zw_names::{Name, Names};
 

@@ -15,8 +15,7 @@ returns-then-len-gt-MAX_TEXT-clause-pays c =
     let t = string_bytes item in
     let once = c.in_ok-raise.ensures in
     let within : i < length (map string_bytes all) = omega (arith, c.loop-text-test.true, length-map all string_bytes) in
-    let long : max_text < length t = omega (arith, c.if-len-gt-MAX_TEXT.true, c.len.ensures) in
-    (
+    let long : max_text < length t = omega (arith, c.if-len-gt-MAX_TEXT.true, c.len.ensures) in (
       once.done,
       once.held,
       λ made I p e.
@@ -34,8 +33,7 @@ returns-then-not-tick-clause-pays c =
     let within : i < length (map string_bytes all) = omega (arith, c.loop-text-test.true, length-map all string_bytes) in
     let same : c.len-in-loop-text.result ≡ length t = omega (arith, c.len-in-loop-text.ensures) in
     let few : length t ≤ max_text = omega (arith, c.if-len-gt-MAX_TEXT.false, c.len.ensures) in
-    let less : left < length t / 64 = subst (λ n. left < n / 64) same (unpaid_less (c.len-in-loop-text.result / 64) left c.if-not-tick.ensures.answer.1) in
-    (
+    let less : left < length t / 64 = subst (λ n. left < n / 64) same (unpaid_less (c.len-in-loop-text.result / 64) left c.if-not-tick.ensures.answer.1) in (
       tt,
       λ s. tt,
       λ made I p e.
