@@ -5,6 +5,7 @@ use Rattle.std.specs.List.{All}
 use Rattle.std.proofs.lemmas.List.{append-nil, length-append}
 use Rattle.std.proofs.lemmas.List.Elements.{All-head, All-tail, All-drop}
 use Rattle.std.specs.Result.{IsErrAnd}
+use Rattle.std.proofs.lemmas.Result.{err_from_is_err_and}
 use Rattle.zw_base.specs.Fault.{IfReason, IfRefused}
 use Rattle.zw_base.specs.declared.fault.Fault.{Fault}
 use Rattle.zw_base.specs.declared.fault.Fault.TheVariants.{Refused, Memory}
@@ -24,17 +25,15 @@ use Rattle.zw_arrays.proofs.EqualityLemmas.{drop-read}
 
 -- ---- refusals that are handed on
 
-pub err_is : {X E : Type 0} (r : Result X E) (f : E) → IsErrAnd r (λ e. e ≡ f) → r ≡ Err f
-err_is (Ok x) f a = absurd a
-err_is (Err e) f a = ap Err a
-
 refused-for : {E : Type 0} (f : Fault E) (P Q : Type 0) → (P → Q) → IfReason f (λ refusal. P) → IfReason f (λ refusal. Q)
 refused-for (Refused refusal) P Q follows holds = follows holds
 refused-for Memory P Q follows holds = holds
 
 -- a call that refuses for the reason of another one
 pub handed-on : {X E : Type 0} (r : Result X (Fault E)) (f : Fault E) (P Q : Type 0) → IsErrAnd r (λ e. e ≡ f) → (P → Q) → IfReason f (λ refusal. P) → IfRefused r (λ refusal. Q)
-handed-on r f P Q is follows holds = subst (λ s. IfRefused s (λ refusal. Q)) (sym (err_is r f is)) (refused-for f P Q follows holds)
+handed-on r f P Q is follows holds =
+    let err = err_from_is_err_and {Q = λ e. e ≡ f} r is in
+    subst (λ s. IfRefused s (λ refusal. Q)) (sym (err.1 ∙ ap Err err.2)) (refused-for f P Q follows holds)
 
 -- ---- texts of items
 
