@@ -1,5 +1,5 @@
 -- Calls by the identity of their method.
-use Rattle.std.proofs.Common.{◌≡◌, ℕ, ℤ, false, List, Result, IfOk, refl, sym, ap, subst}
+use Rattle.std.proofs.Common.{◌≡◌, ℕ, ℤ, false, List, Result, IfOk, refl, sym, subst}
 use Rattle.std.specs.declared.alloc.AllocError.{AllocError}
 use Rattle.zw_def.specs.Text.{Text}
 use Rattle.zw_def_world.specs.Row.{Row, of_class, of_module, of_object, class_superclass, module_name, object_initialize}

@@ -1,9 +1,9 @@
 -- What each method of Kernel does that is not marked.
-use Rattle.std.proofs.Common.{◌≡◌, Bool, true, false, ℕ, List, [], ◌∷◌, map, Option, Some, None, Result, Ok, IfOk, refl, sym, ap, subst, ◌∙◌}
+use Rattle.std.proofs.Common.{◌≡◌, Bool, false, ℕ, List, map, Some, Result, IfOk, refl, sym, ap, subst, ◌∙◌}
 use Rattle.std.specs.Option.{option_map}
 use Rattle.std.specs.declared.alloc.AllocError.{AllocError}
 use Rattle.zw_def.specs.Text.{Text}
-use Rattle.zw_def_world.specs.Act.{Act, Point, gives, read, reading}
+use Rattle.zw_def_world.specs.Act.{Act, Point, read}
 use Rattle.zw_def_world.specs.Ancestor.{class_of}
 use Rattle.zw_def_world.specs.Argument.{kernel_arguments}
 use Rattle.zw_def_world.specs.Equality.{same}
@@ -17,7 +17,6 @@ use Rattle.zw_def_world.specs.World.{World, is_frozen}
 use Rattle.zw_heap.specs.Heap.{Held}
 use Rattle.zw_heap.specs.Telling.{Telling, Fits, Agrees, tell}
 use Rattle.zw_heap.specs.declared.value.Value.{Value}
-use Rattle.zw_heap.specs.declared.value.Value.TheVariants as v
 use Rattle.zw_calls.specs.End.{EndsAtOnce, Performs}
 use Rattle.zw_calls.specs.KernelRow.{kernel_row_seen}
 use Rattle.zw_calls.specs.declared.end.PrimEnd.{PrimEnd}
@@ -25,7 +24,7 @@ use Rattle.zw_calls.specs.declared.kernel_row.KernelRow.{KernelRow}
 use Rattle.zw_calls.specs.declared.kernel_row.KernelRow.TheVariants as r
 use Rattle.zw_prims.specs.Marked.{kernel_marked}
 use Rattle.zw_prims.specs.Passes.{Pass}
-use Rattle.zw_prims.proofs.AgreeLemmas.{mapped, instance-of, module_first}
+use Rattle.zw_prims.proofs.AgreeLemmas.{instance-of, module_first}
 use Rattle.zw_prims.proofs.EndLemmas.{adds_none, once_like, performs_like}
 
 abbrev pub called : KernelRow → Value → List Value → Site → Telling → Act

@@ -32,7 +32,7 @@ unreachable-requires c =
       | in_default-via-in-Symbol+in_default w ↦ no_symbol h prim x receives w.in_default.field-0-0 w.in_default.is-0 w.in_default.not-Sym-1
       | in_default-via-in-Array+in_default w ↦ no_array h prim x receives w.in_default.field-0-0 w.in_default.is-0 w.in_default.not-Array-1
       | in_default-via-in-Exception+in_default w ↦ no_exception h prim x receives w.in_default.field-0-0 w.in_default.is-0 w.in_default.not-Object-1
-      ]
+    ]
 
 pub returns-in-Kernel-default-clause-does : goal.returns-in-Kernel-default-clause-does
 returns-in-Kernel-default-clause-does c = λ here.

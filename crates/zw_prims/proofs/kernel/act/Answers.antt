@@ -1,5 +1,4 @@
-use Rattle.std.proofs.Common.{Ok, refl, ap, sym, ◌∙◌, rules}
-use Rattle.zw_def_world.specs.Site.{yes_or_no}
+use Rattle.std.proofs.Common.{refl}
 use Rattle.zw_heap.specs.Heap.{sizes_of}
 use Rattle.zw_calls.specs.declared.kernel_row.KernelRow.TheVariants as r
 use Rattle.zw_show.specs.IsTold.{inspect_of, built_in_of}
