@@ -1,5 +1,5 @@
 -- Calls by the identity of their method.
-use Rattle.std.proofs.Common.{◌≡◌, ℕ, ℤ, false, List, Result, IfOk, refl, sym, ap, subst}
+use Rattle.std.proofs.Common.{◌≡◌, ℕ, ℤ, false, List, Result, IfOk, refl, sym, subst}
 use Rattle.std.specs.declared.alloc.AllocError.{AllocError}
 use Rattle.zw_def.specs.Text.{Text}
 use Rattle.zw_def_world.specs.Row.{Row, of_class, of_module, of_object, class_superclass, module_name, object_initialize}
@@ -29,7 +29,7 @@ use Rattle.zw_heap.specs.declared.value.ObjRef.{ObjRef}
 use Rattle.zw_heap.specs.declared.value.TextRef.{TextRef}
 use Rattle.zw_heap.specs.declared.value.Value.TheVariants as v
 use Rattle.zw_names.specs.declared.names.Name.{Name}
-use Rattle.zw_prims.specs.Receives.{Receives, IsException}
+use Rattle.zw_prims.specs.Receives.{Receives}
 use Rattle.zw_prims.specs.Does.{Does}
 use Rattle.zw_prims.specs.Marked.{is_marked, module_marked, class_marked}
 use Rattle.zw_prims.proofs.DoesLemmas.{all_perform}
@@ -43,35 +43,31 @@ module _ (h g : Held) (names : List Text) (left later : ℕ) (prim : PrimId) (x 
   pub performs_as : AddsNamed h g → IfOk end (Performs (call_of row y xs) g names left later) → IfOk end (Does (call_of (row_seen prim) x xs) h g names left later)
   performs_as adds performs = does_as (all_perform (call_of row y xs) h g names left later adds end performs)
 
--- what the receiver of a method of Exception is
-pub exception_received : (h : Held) (prim : PrimId) (x : Value) (row : ExceptionRow) → Receives prim h x → prim ≡ p.Exception row → (o : ObjRef) → x ≡ v.Object o → IsException h (v.Object o)
-exception_received h prim x row receives is o at = subst (IsException h) at (subst (λ q. Receives q h x) is receives).2
-
 -- a method that no arm of the call has
 module _ (h : Held) (prim : PrimId) (x : Value) (receives : Receives prim h x) where
   pub no_module : (row : ModuleRow) → prim ≡ p.Module row → ((m : ModuleId) → x ≡ v.Module m → ⊥) → ⊥
-  no_module row is no = let it = subst (λ q. Receives q h x) is receives in no it.0 it.1
+  no_module row is apart = let it = subst (λ q. Receives q h x) is receives in apart it.0 it.1
 
   pub no_class : (row : ClassRow) → prim ≡ p.Class row → ((m : ModuleId) → x ≡ v.Module m → ⊥) → ⊥
-  no_class row is no = let it = subst (λ q. Receives q h x) is receives in no it.0 it.1
+  no_class row is apart = let it = subst (λ q. Receives q h x) is receives in apart it.0 it.1
 
   pub no_nil : (row : NilRow) → prim ≡ p.Nil row → (x ≡ v.Nil → ⊥) → ⊥
-  no_nil row is no = no (subst (λ q. Receives q h x) is receives)
+  no_nil row is apart = apart (subst (λ q. Receives q h x) is receives)
 
   pub no_integer : (row : IntegerRow) → prim ≡ p.Integer row → ((z : ℤ) → x ≡ v.Int z → ⊥) → ⊥
-  no_integer row is no = let it = subst (λ q. Receives q h x) is receives in no it.0 it.1
+  no_integer row is apart = let it = subst (λ q. Receives q h x) is receives in apart it.0 it.1
 
   pub no_text : (row : StringRow) → prim ≡ p.String row → ((t : TextRef) → x ≡ v.Text t → ⊥) → ⊥
-  no_text row is no = let it = subst (λ q. Receives q h x) is receives in no it.0 it.1
+  no_text row is apart = let it = subst (λ q. Receives q h x) is receives in apart it.0 it.1
 
   pub no_symbol : (row : SymbolRow) → prim ≡ p.Symbol row → ((n : Name) → x ≡ v.Sym n → ⊥) → ⊥
-  no_symbol row is no = let it = subst (λ q. Receives q h x) is receives in no it.0 it.1
+  no_symbol row is apart = let it = subst (λ q. Receives q h x) is receives in apart it.0 it.1
 
   pub no_array : (row : ArrayRow) → prim ≡ p.Array row → ((a : ArrayRef) → x ≡ v.Array a → ⊥) → ⊥
-  no_array row is no = let it = subst (λ q. Receives q h x) is receives in no it.0 it.1
+  no_array row is apart = let it = subst (λ q. Receives q h x) is receives in apart it.0 it.1
 
   pub no_exception : (row : ExceptionRow) → prim ≡ p.Exception row → ((o : ObjRef) → x ≡ v.Object o → ⊥) → ⊥
-  no_exception row is no = let it = subst (λ q. Receives q h x) is receives in no it.0 it.1
+  no_exception row is apart = let it = subst (λ q. Receives q h x) is receives in apart it.0 it.1
 
 -- ---- the rows of which one method alone is not marked
 

@@ -1,5 +1,5 @@
 -- Calls that read the world before they end.
-use Rattle.std.proofs.Common.{◌≡◌, ℕ, List, Option, Result, Ok, Err, IfOk, refl, sym, ap, ◌∙◌}
+use Rattle.std.proofs.Common.{◌≡◌, ℕ, List, Result, Ok, Err, IfOk, refl, ◌∙◌}
 use Rattle.zw_def.specs.Text.{Text}
 use Rattle.zw_def_world.specs.Act.{Act, Point}
 use Rattle.zw_def_world.specs.Site.{Site}

@@ -1,5 +1,5 @@
 -- An exception that keeps a message, in a heap and in each world that agrees with it.
-use Rattle.std.proofs.Common.{◌≡◌, Bool, true, false, ◌==◌, ℕ, ◌<◌, List, [], ◌∷◌, length, map, cond, get_or, slice_get, Option, Some, None, refl, sym, ap, subst, ◌∙◌, arith}
+use Rattle.std.proofs.Common.{◌≡◌, Bool, true, false, ◌==◌, ℕ, ◌<◌, List, [], ◌∷◌, length, map, cond, get_or, slice_get, Some, refl, sym, ap, subst, ◌∙◌, arith}
 use Rattle.std.specs.Option.{option_map}
 use Rattle.std.proofs.Math.ListN.{set}
 use Rattle.std.proofs.lemmas.Bool.{eqb-true, eq-eqb}
@@ -8,7 +8,6 @@ use Rattle.std.proofs.lemmas.Option.{slice_get_within, slice_get_read, get_or_fr
 use Rattle.zw_def.specs.Text.{Text}
 use Rattle.zw_def_world.specs.Act.{Act, Point, changing, gives, read}
 use Rattle.zw_def_world.specs.Fault.{frozen_fault}
-use Rattle.zw_def_world.specs.Id.{id_eq}
 use Rattle.zw_def_world.specs.ObjectRows.{exception_act, keeps}
 use Rattle.zw_def_world.specs.Record as told_record
 use Rattle.zw_def_world.specs.Row.{exception_initialize}

@@ -1,14 +1,15 @@
 -- What each method of Kernel does that is not marked.
-use Rattle.std.proofs.Common.{◌≡◌, Bool, true, false, ℕ, List, [], ◌∷◌, map, Option, Some, None, Result, Ok, IfOk, refl, sym, ap, subst, ◌∙◌}
+use Rattle.std.proofs.Common.{◌≡◌, Bool, false, ℕ, List, map, Some, Result, IfOk, refl, sym, ap, subst, ◌∙◌}
 use Rattle.std.specs.Option.{option_map}
 use Rattle.std.specs.declared.alloc.AllocError.{AllocError}
 use Rattle.zw_def.specs.Text.{Text}
-use Rattle.zw_def_world.specs.Act.{Act, Point, gives, read, reading}
+use Rattle.zw_def_world.specs.Act.{Act, Point, read}
 use Rattle.zw_def_world.specs.Ancestor.{class_of}
 use Rattle.zw_def_world.specs.Argument.{kernel_arguments}
+use Rattle.zw_def_world.specs.Equality.{same}
 use Rattle.zw_def_world.specs.Id.{Id, id_eq}
 use Rattle.zw_def_world.specs.KernelRows.{kernel_act}
-use Rattle.zw_def_world.specs.Row.{kernel_is_nil}
+use Rattle.zw_def_world.specs.Row.{kernel_equal, kernel_is_nil}
 use Rattle.zw_def_world.specs.Site.{Site, first, yes_or_no}
 use Rattle.zw_def_world.specs.Value as told
 use Rattle.zw_def_world.specs.Value.{as_module}
@@ -16,7 +17,6 @@ use Rattle.zw_def_world.specs.World.{World, is_frozen}
 use Rattle.zw_heap.specs.Heap.{Held}
 use Rattle.zw_heap.specs.Telling.{Telling, Fits, Agrees, tell}
 use Rattle.zw_heap.specs.declared.value.Value.{Value}
-use Rattle.zw_heap.specs.declared.value.Value.TheVariants as v
 use Rattle.zw_calls.specs.End.{EndsAtOnce, Performs}
 use Rattle.zw_calls.specs.KernelRow.{kernel_row_seen}
 use Rattle.zw_calls.specs.declared.end.PrimEnd.{PrimEnd}
@@ -24,8 +24,8 @@ use Rattle.zw_calls.specs.declared.kernel_row.KernelRow.{KernelRow}
 use Rattle.zw_calls.specs.declared.kernel_row.KernelRow.TheVariants as r
 use Rattle.zw_prims.specs.Marked.{kernel_marked}
 use Rattle.zw_prims.specs.Passes.{Pass}
-use Rattle.zw_prims.proofs.AgreeLemmas.{mapped, instance-of, module_first}
-use Rattle.zw_prims.proofs.EndLemmas.{once_like}
+use Rattle.zw_prims.proofs.AgreeLemmas.{instance-of, module_first}
+use Rattle.zw_prims.proofs.EndLemmas.{adds_none, once_like, performs_like}
 
 abbrev pub called : KernelRow → Value → List Value → Site → Telling → Act
 called row x xs s I = kernel_act s (kernel_row_seen row).1 (tell I x) (map (tell I) xs)
@@ -40,6 +40,12 @@ module _ (h : Held) (names : List Text) (left : ℕ) (row : KernelRow) (x : Valu
 
   pub frozen_arm : row ≡ r.IsFrozen → (b : Bool) → ((I : Telling) (w : World) → Agrees I h w → is_frozen w (tell I x) ≡ Some b) → (end : PrimEnd) → EndsAtOnce (λ I. yes_or_no b) end → Performs (called row x xs) h names left left end
   frozen_arm is b known end once = arm r.IsFrozen (λ I. yes_or_no b) is (λ s I p fit agrees. ap (λ o. read o yes_or_no p) (known I p.world agrees)) end once
+
+  pub equal_arm : (later : ℕ) (k : KernelRow) → row ≡ k → (kernel_row_seen k).1 ≡ kernel_equal → (other : Value) → ((I : Telling) → first (map (tell I) xs) ≡ tell I other) → (end : PrimEnd) → Performs (λ s I. same (tell I x) (tell I other)) h names left later end → Performs (called row x xs) h names left later end
+  equal_arm later k is does other at end performs =
+      performs_like h h names left later (λ s I. same (tell I x) (tell I other)) (called row x xs) (adds_none h)
+      (λ s I p fit agrees.
+      ap (λ j. kernel_act s (kernel_row_seen j).1 (tell I x) (map (tell I) xs) p) is ∙ ap (λ d. kernel_act s d (tell I x) (map (tell I) xs) p) does ∙ ap (λ v. same (tell I x) v p) (at I)) end performs
 
   pub nil_arm : row ≡ r.IsNil → (b : Bool) → ((s : Site) (I : Telling) (vs : List told.Value) → kernel_act s kernel_is_nil (tell I x) vs ≡ yes_or_no b) → (end : PrimEnd) → EndsAtOnce (λ I. yes_or_no b) end → Performs (called row x xs) h names left left end
   nil_arm is b known end once = arm r.IsNil (λ I. yes_or_no b) is (λ s I p fit agrees. ap (λ (act : Act). act p) (known s I (map (tell I) xs))) end once

@@ -1,7 +1,6 @@
 -- How a call of any primitive method ends, and what it leaves. One method alone changes a record: an exception keeps a
 -- message.
-use Rattle.std.specs.Prelude.{◌≡◌, ℕ, Bool, true, false, List, Option, Some, None, Result, Ok}
-use Rattle.std.specs.declared.alloc.AllocError.{AllocError}
+use Rattle.std.specs.Prelude.{◌≡◌, ℕ, List, Option, Some, None}
 use Rattle.zw_def.specs.Text.{Text}
 use Rattle.zw_def_world.specs.Act.{Act, Point}
 use Rattle.zw_def_world.specs.Record.{with_message}
@@ -13,8 +12,6 @@ use Rattle.zw_heap.specs.ObjectRecord as held_record
 use Rattle.zw_heap.specs.Telling.{Telling, Fits, Agrees}
 use Rattle.zw_calls.specs.End.{end_seen, EndIn, IsDone}
 use Rattle.zw_calls.specs.declared.end.PrimEnd.{PrimEnd}
-use Rattle.zw_calls.specs.declared.end.PrimEnd.TheVariants as e
-use Rattle.zw_calls.specs.declared.prim_id.PrimId.{PrimId}
 
 -- the world in which the object of a number keeps a text; without one it is as before
 abbrev pub world_after : Telling → Option (ℕ × Text) → World → World

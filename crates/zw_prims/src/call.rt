@@ -15,10 +15,12 @@ ghost use Rattle.zw_prims.specs.Receives.{Receives};
 
 use crate::{class, exception, integer, kernel, module, nil, object};
 use std::alloc::{AllocError, Global};
+use zw_arrays::array;
 use zw_calls::{ClassRow, KernelRow, ModuleRow, PrimEnd, PrimId};
 use zw_heap::{Heap, Value};
 use zw_meter::Meter;
 use zw_names::Names;
+use zw_strings::{string, symbol};
 
 /// Whether a method of Kernel calls methods, or reads or changes tables.
 fn is_marked_kernel(row: KernelRow) -> bool
@@ -91,6 +93,15 @@ pub fn apply(
         (PrimId::Nil(row), Value::Nil) => nil::apply(alloc, row, args, heap, names, meter),
         (PrimId::Integer(row), Value::Int(number)) => integer::apply(
             alloc, row, number, args, heap, names, meter,
+        ),
+        (PrimId::String(row), Value::Text(text)) => string::apply(
+            alloc, row, text, args, heap, names, meter,
+        ),
+        (PrimId::Symbol(row), Value::Sym(name)) => symbol::apply(
+            alloc, row, name, args, heap, names,
+        ),
+        (PrimId::Array(row), Value::Array(array)) => array::apply(
+            alloc, row, array, args, heap, names, meter,
         ),
         (PrimId::Exception(row), Value::Object(object)) => exception::apply(
             alloc, row, object, args, heap, names, meter,

@@ -4,6 +4,7 @@ ghost use Rattle.std.specs.List.{All};
 ghost use Rattle.zw_def.specs.Text.{Text};
 ghost use Rattle.zw_def_world.specs.Ancestor.{class_of};
 ghost use Rattle.zw_def_world.specs.Argument.{kernel_arguments};
+ghost use Rattle.zw_def_world.specs.Equality.{same};
 ghost use Rattle.zw_def_world.specs.Id.{Id, id_eq};
 ghost use Rattle.zw_def_world.specs.KernelRows.{kernel_act};
 ghost use Rattle.zw_def_world.specs.Row.{of_kernel, kernel_is_nil};
@@ -24,6 +25,7 @@ ghost use Rattle.zw_prims.specs.Passes.{Pass};
 
 use crate::shown::made;
 use std::alloc::{AllocError, Global};
+use zw_arrays::equality::same;
 use zw_calls::KernelRow;
 use zw_calls::argument::Arguments;
 use zw_calls::end::{PrimEnd, yes_or_no};
@@ -57,6 +59,20 @@ fn is_frozen(value: Value, heap: &Heap) -> bool
     ensures { (I : Telling) (w : World) → Agrees I heap.now w → is_frozen w (tell I value) ≡ Some result }
 {
     heap.is_frozen(value)
+}
+
+/// Whether values are the same, by the built-in `==`.
+fn equal(one: Value, other: Value, heap: &Heap, meter: &mut Meter) -> PrimEnd
+    requires one { IsIn (sizes_of heap.now) one }
+    requires other { IsIn (sizes_of heap.now) other }
+    ensures depth { meter.new.depth ≡ meter.old.depth }
+    ensures performs { (names : List Text) → Performs (λ s I. same (tell I one) (tell I other))
+        heap.now names meter.old.left meter.new.left result }
+{
+    match same(heap, one, other, meter) {
+        Some(answer) => yes_or_no(answer),
+        None => PrimEnd::Budget,
+    }
 }
 
 /// Whether a value is of that class itself.
@@ -121,6 +137,8 @@ fn act(
     match row {
         KernelRow::Class => Ok(PrimEnd::Value(Value::Module(class_of(receiver, heap)))),
         KernelRow::IsNil => Ok(yes_or_no(is_nil(receiver))),
+        KernelRow::Equal => Ok(equal(receiver, other, heap, meter)),
+        KernelRow::IsSame => Ok(equal(receiver, other, heap, meter)),
         KernelRow::IsInstanceOf => Ok(yes_or_no(is_instance(receiver, other, heap))),
         KernelRow::ToS => made(alloc, to_text(alloc, heap, names, receiver), heap, meter),
         KernelRow::Inspect => made(alloc, inspect(alloc, heap, names, receiver), heap, meter),

@@ -1,10 +1,7 @@
-use Rattle.std.proofs.Common.{map, ap}
-use Rattle.zw_def_world.specs.ObjectRows.{exception_act}
-use Rattle.zw_heap.specs.Telling.{tell}
+use Rattle.std.proofs.Common.{ap}
 use Rattle.zw_heap.specs.declared.value.Value.TheVariants as v
 use Rattle.zw_show.specs.IsTold.{inspect_of, built_in_of}
 use Rattle.zw_calls.specs.ExceptionRow.{exception_row_seen}
-use Rattle.zw_calls.specs.declared.exception_row.ExceptionRow.TheVariants as r
 use Rattle.zw_prims.proofs.ExceptionLemmas.{initialize_arm, message_arm, inspect_arm}
 use Rattle.zw_prims.proofs.exception.act.Goals as goal
 

@@ -1,11 +1,10 @@
-use Rattle.std.proofs.Common.{◌≡◌, List, [], true, false, Some, refl, ap, sym, subst, ◌∙◌, string_bytes, rules}
+use Rattle.std.proofs.Common.{◌≡◌, [], true, false, Some, refl, ap, sym, subst, ◌∙◌, rules}
 use Rattle.zw_def_world.specs.Act.{gives}
 use Rattle.zw_def_world.specs.Fault.{frozen_fault}
 use Rattle.zw_def_world.specs.Value as told
 use Rattle.zw_heap.specs.Change.{message_set}
 use Rattle.zw_heap.specs.Heap.{is_frozen_in}
 use Rattle.zw_heap.specs.Telling.{OnlyAdds, tell}
-use Rattle.zw_heap.specs.declared.value.Value.{Value}
 use Rattle.zw_heap.specs.declared.value.Value.TheVariants as v
 use Rattle.zw_calls.specs.declared.end.PrimEnd.TheVariants as e
 use Rattle.zw_prims.proofs.EndLemmas.{adds_none, all_like, once_like}

@@ -1,8 +1,8 @@
-use Rattle.std.proofs.Common.{Ok, refl, ap, sym, ◌∙◌, rules}
-use Rattle.zw_def_world.specs.Site.{yes_or_no}
+use Rattle.std.proofs.Common.{refl}
+use Rattle.zw_heap.specs.Heap.{sizes_of}
 use Rattle.zw_calls.specs.declared.kernel_row.KernelRow.TheVariants as r
 use Rattle.zw_show.specs.IsTold.{inspect_of, built_in_of}
-use Rattle.zw_prims.proofs.KernelLemmas.{as_row, frozen_arm, instance_arm, nil_arm, not_marked}
+use Rattle.zw_prims.proofs.KernelLemmas.{as_row, equal_arm, frozen_arm, instance_arm, nil_arm, not_marked}
 use Rattle.zw_prims.proofs.kernel.act.Goals as goal
 
 pub unreachable-requires : goal.unreachable-requires
@@ -33,3 +33,19 @@ pub returns-in-IsNil-clause-performs : goal.returns-in-IsNil-clause-performs
 returns-in-IsNil-clause-performs c =
     nil_arm c.args.heap.now c.args.names.now c.args.meter.now.left c.args.row c.args.receiver c.args.args.now c.in-IsNil.is
     c.is_nil.result c.is_nil.ensures c.yes_or_no.result c.yes_or_no.ensures
+
+pub equal-requires-clause-other : goal.equal-requires-clause-other
+equal-requires-clause-other c = c.first-other.ensures.held (sizes_of c.args.heap.now) c.requires.arguments
+
+pub equal-requires-in-IsSame-clause-other : goal.equal-requires-in-IsSame-clause-other
+equal-requires-in-IsSame-clause-other c = c.first-other.ensures.held (sizes_of c.args.heap.now) c.requires.arguments
+
+pub returns-in-Equal-clause-performs : goal.returns-in-Equal-clause-performs
+returns-in-Equal-clause-performs c =
+    equal_arm c.args.heap.now c.args.names.now c.args.meter.now.left c.args.row c.args.receiver c.args.args.now c.equal.new.meter.left r.Equal c.in-Equal.is refl
+    c.first-other.result c.first-other.ensures.told c.equal.result (c.equal.ensures.performs c.args.names.now)
+
+pub returns-in-IsSame-clause-performs : goal.returns-in-IsSame-clause-performs
+returns-in-IsSame-clause-performs c =
+    equal_arm c.args.heap.now c.args.names.now c.args.meter.now.left c.args.row c.args.receiver c.args.args.now c.equal-in-IsSame.new.meter.left r.IsSame c.in-IsSame.is refl
+    c.first-other.result c.first-other.ensures.told c.equal-in-IsSame.result (c.equal-in-IsSame.ensures.performs c.args.names.now)

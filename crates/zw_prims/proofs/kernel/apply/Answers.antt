@@ -1,9 +1,7 @@
-use Rattle.std.proofs.Common.{map, ap, ◌∙◌, subst}
+use Rattle.std.proofs.Common.{map}
 use Rattle.zw_def_world.specs.Argument.{kernel_arguments}
 use Rattle.zw_def_world.specs.KernelRows.{kernel_act}
-use Rattle.zw_def_world.specs.Site.{tested}
 use Rattle.zw_heap.specs.Telling.{tell}
-use Rattle.zw_calls.specs.Fault.{AreSame, unless_fault}
 use Rattle.zw_calls.specs.KernelRow.{kernel_row_seen}
 use Rattle.zw_calls.proofs.CallLemmas.{refused, passed}
 use Rattle.zw_prims.proofs.DoesLemmas.{passes}

@@ -1,4 +1,3 @@
-use Rattle.std.proofs.Common.{ap, Some, ◌∙◌, rules}
 use Rattle.zw_heap.specs.Telling.{tell}
 use Rattle.zw_prims.proofs.AgreeLemmas.{instance-told}
 use Rattle.zw_prims.proofs.kernel.is_instance.Goals as goal

@@ -1,4 +1,4 @@
-use Rattle.std.proofs.Common.{ap, ◌∙◌, sym, subst, string_bytes, IfOk, rules}
+use Rattle.std.proofs.Common.{ap, ◌∙◌, sym, subst, string_bytes, IfOk}
 use Rattle.zw_def_world.specs.Act.{read, reading}
 use Rattle.zw_def_world.specs.Making.{makes_text}
 use Rattle.zw_show.specs.IsTold.{IsTold}
