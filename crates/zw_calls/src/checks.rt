@@ -84,7 +84,12 @@ fn expected(alloc: Global, least: usize, most: usize) -> Result<String, AllocErr
 }
 
 /// The fault of a number of arguments that a method does not take.
-pub fn wrong_number(alloc: Global, given: usize, least: usize, most: usize) -> Result<Raise, AllocError>
+pub fn wrong_number(
+    alloc: Global,
+    given: usize,
+    least: usize,
+    most: usize,
+) -> Result<Raise, AllocError>
     ensures { IfOk result (λ raise. fault_seen raise ≡ wrong_number given least most false) }
 {
     let expected = expected(alloc, least, most)?;
