@@ -3,7 +3,7 @@ ghost use Rattle.std.specs.Prelude.{◌≤◌, length, IfOk};
 ghost use Rattle.std.specs.List.{All};
 ghost use Rattle.zw_heap.specs.Heap.{sizes_of};
 ghost use Rattle.zw_heap.specs.Sound.{IsIn};
-ghost use Rattle.zw_prims.specs.End.{EndIn};
+ghost use Rattle.zw_calls.specs.End.{EndIn};
 
 use crate::integer_table::{ALONE, ARITHMETIC, BOUNDS, ORDER, Row};
 use crate::outcome::outcome;

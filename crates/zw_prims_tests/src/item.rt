@@ -6,7 +6,7 @@ ghost use Rattle.zw_heap.specs.Sound.{IsIn, Stays};
 
 use std::alloc::Global;
 use std::test::Fail;
-use zw_heap::{Heap, Value};
+use zw_heap::{CoreClass, Heap, Value};
 use zw_names::Names;
 
 /// A value, by what it holds.
@@ -19,6 +19,8 @@ pub(crate) enum Item {
     Text(&'static str),
     Symbol(&'static str),
     Numbers(&'static [i64]),
+    Module(CoreClass),
+    Main,
 }
 
 fn numbers(alloc: Global, numbers: &[i64], heap: &mut Heap) -> Result<Value, Fail>
@@ -33,7 +35,13 @@ fn numbers(alloc: Global, numbers: &[i64], heap: &mut Heap) -> Result<Value, Fai
     Ok(Value::Array(heap.make_array(items.as_slice())?))
 }
 
-fn value(alloc: Global, item: &Item, heap: &mut Heap, names: &mut Names) -> Result<Value, Fail>
+/// The value, in the heap.
+pub(crate) fn value(
+    alloc: Global,
+    item: &Item,
+    heap: &mut Heap,
+    names: &mut Names,
+) -> Result<Value, Fail>
     requires named { heap.old.names ≤ length names.old }
     ensures held { IfOk result (IsIn (sizes_of heap.new)) }
     ensures named { heap.new.names ≤ length names.new }
@@ -51,6 +59,8 @@ fn value(alloc: Global, item: &Item, heap: &mut Heap, names: &mut Names) -> Resu
             Ok(Value::Sym(name))
         }
         Item::Numbers(items) => numbers(alloc, items, heap),
+        Item::Module(class) => Ok(Value::Module(heap.core(*class))),
+        Item::Main => Ok(Value::Object(heap.main())),
     }
 }
 

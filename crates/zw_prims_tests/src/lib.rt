@@ -8,11 +8,23 @@ mod array;
 #[cfg(test)]
 mod array_table;
 #[cfg(test)]
+mod call;
+#[cfg(test)]
+mod exception;
+#[cfg(test)]
+mod exception_table;
+#[cfg(test)]
 mod integer;
 #[cfg(test)]
 mod integer_table;
 #[cfg(test)]
 mod item;
+#[cfg(test)]
+mod kernel;
+#[cfg(test)]
+mod kernel_table;
+#[cfg(test)]
+mod module;
 #[cfg(test)]
 mod names;
 #[cfg(test)]

@@ -6,7 +6,7 @@ use zw_calls::{prim, row};
 use zw_heap::CoreClass;
 
 /// The methods of each class or module that has some.
-const METHODS: &[(CoreClass, &str)] = &[
+pub(crate) const METHODS: &[(CoreClass, &str)] = &[
     (
         CoreClass::Kernel,
         "puts raise class nil? == != equal? is_a? instance_of? respond_to? to_s inspect freeze frozen?",

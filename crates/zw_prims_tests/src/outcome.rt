@@ -1,11 +1,11 @@
 //! How calls end, told as texts.
 ghost use Rattle.std.specs.Prelude.{◌≤◌, length};
 ghost use Rattle.zw_heap.specs.Heap.{sizes_of};
-ghost use Rattle.zw_prims.specs.End.{EndIn};
+ghost use Rattle.zw_calls.specs.End.{EndIn};
 
 use std::alloc::Global;
 use std::test::Fail;
-use zw_calls::PrimEnd;
+use zw_calls::{PrimEnd, row};
 use zw_heap::Heap;
 use zw_names::Names;
 use zw_show::inspect;
@@ -28,6 +28,10 @@ pub(crate) fn outcome(
             Ok(format!(in alloc; "! {class}: {message}")?)
         }
         PrimEnd::Budget => Ok(String::from_str(alloc, "budget")?),
-        PrimEnd::Again(_) => Ok(String::from_str(alloc, "again")?),
+        PrimEnd::Again(prim) => {
+            let (class, name) = row(*prim);
+            let class = class.name();
+            Ok(format!(in alloc; "again {class} {name}")?)
+        }
     }
 }
