@@ -28,9 +28,9 @@ when 'alone'
   %w[class nil? to_s inspect].each { |n| VALUES.each { |v| row(n, v, [], v.public_send(n)) } }
 when 'equal'
   few = VALUES - [0, 'a b', :b?, [1, 2], Integer]
-  few.each { |a| few.each { |b| row('==', a, [b], a == b) } }
+  few.each { |a| few.each { |b| puts "    (#{item(a)}, #{item(b)}, #{a == b})," } }
 when 'instance'
-  VALUES.each { |v| CLASSES.each { |c| row('instance_of?', v, [c], v.instance_of?(c)) } }
+  VALUES.each { |v| CLASSES.each { |c| puts "    (#{item(v)}, CoreClass::#{c}, #{v.instance_of?(c)})," } }
 when 'exceptions'
   EXCEPTIONS.each do |c|
     %w[message to_s inspect].each do |n|
