@@ -29,7 +29,8 @@ abbrev pub told_running : Telling → Running → told_frame.Running
 told_running I r = record { name = I.name r.name.0; place = told_place I (place_seen r.place); earlier = r.earlier }
 
 -- a telling, with the code of bodies, of a world that agrees with the stores
-pub record Tells (I : Telling) (codes : Codes) (h : Held) (methods : Methods) (names : List Text) (w : World) : Type 0 where
+pub record Tells (I : Telling) (codes : Codes) (h : Held) (methods : Methods) (names : List Text)
+    (w : World) : Type 0 where
   pub fits : Fits I names h
   pub heap : Agrees I h w
   pub methods_told : AgreesMethods I codes (tables_in methods) w
@@ -39,20 +40,24 @@ pub record Tells (I : Telling) (codes : Codes) (h : Held) (methods : Methods) (n
 -- it is the method that was found, as it runs
 abbrev pub IsChosen : Telling → Codes → Text → Option told_line.Found → Option Chosen → Type 0
 IsChosen I codes x None None = Unit {0}
-IsChosen I codes x (Some f) (Some c) = (f.method ≡ told_method I codes c.method) × (running_at x f ≡ told_running I c.running)
+IsChosen I codes x (Some f) (Some c) =
+    (f.method ≡ told_method I codes c.method) × (running_at x f ≡ told_running I c.running)
 IsChosen I codes x _ _ = ⊥
 
 -- from a place of a line on
 abbrev pub FindsFrom : Telling → Codes → World → Bool → Text → ℕ → List ModuleLine → Option Chosen → Type 0
 FindsFrom I codes w passes x start line chosen =
     (found : Option told_line.Found)
-    × (told_line.first_method w (told_line.is_asked passes) x (map (told_place I) (places_of (take start line))) (map (told_place I) (places_of (drop start line))) ≡ Some found)
+    × (told_line.first_method w (told_line.is_asked passes) x (map (told_place I) (places_of (take start line)))
+    (map (told_place I) (places_of (drop start line))) ≡ Some found)
     × IsChosen I codes x found chosen
 
 abbrev pub Finds : Held → Methods → List Text → Value → ℕ → Option Chosen → Type 0
 Finds h methods names receiver x chosen =
     (I : Telling) (codes : Codes) (w : World) → Tells I codes h methods names w
-    → (found : Option told_line.Found) × (told_line.method_of w (tell I receiver) (I.name x) ≡ Some found) × IsChosen I codes (I.name x) found chosen
+    → (found : Option told_line.Found)
+    × (told_line.method_of w (tell I receiver) (I.name x) ≡ Some found)
+    × IsChosen I codes (I.name x) found chosen
 
 -- behind a running method
 abbrev pub FindsNext : Held → Methods → List Text → Value → Running → Option Chosen → Type 0
@@ -64,19 +69,25 @@ FindsNext h methods names receiver running chosen =
 
 -- ---- what is done
 
--- the call does so, whatever the meaning of nodes
-abbrev pub Does : Held → Methods → List Text → (Telling → Codes → (Node → Act) → List told.Value → Act) → (Telling → Codes → (Node → Act) → List told.Value → Act) → Type 0
+-- what is done by each meaning of nodes, with any arguments
+abbrev pub Doing : Type 0
+Doing = Telling → Codes → (Node → Act) → List told.Value → Act
+
+-- the call does so
+abbrev pub Does : Held → Methods → List Text → Doing → Doing → Type 0
 Does h methods names call act =
-    (I : Telling) (codes : Codes) (go : Node → Act) (vs : List told.Value) (p : Point) → Tells I codes h methods names p.world
+    (I : Telling) (codes : Codes) (go : Node → Act) (vs : List told.Value) (p : Point)
+    → Tells I codes h methods names p.world
     → call I codes go vs p ≡ act I codes go vs p
 
-abbrev pub runs_chosen : Bool → Value → Chosen → Telling → Codes → (Node → Act) → List told.Value → Act
+abbrev pub runs_chosen : Bool → Value → Chosen → Doing
 runs_chosen bare receiver c I codes go vs =
     runs_body (node_site go bare) go (tell I receiver) (told_running I c.running) vs (told_body I codes c.method.body)
 
-abbrev pub Runs : Held → Methods → List Text → Bool → Value → (Telling → Codes → (Node → Act) → List told.Value → Act) → Result Chosen (Fault Raise) → Type 0
+abbrev pub Runs : Held → Methods → List Text → Bool → Value → Doing → Result Chosen (Fault Raise) → Type 0
 Runs h methods names bare receiver call (Ok c) = Does h methods names call (runs_chosen bare receiver c)
-Runs h methods names bare receiver call (Err (Refused raise)) = Does h methods names call (λ I codes go vs. fault_seen raise)
+Runs h methods names bare receiver call (Err (Refused raise)) =
+    Does h methods names call (λ I codes go vs. fault_seen raise)
 Runs h methods names bare receiver call (Err Memory) = Unit {0}
 
 abbrev pub Chooses : Held → Methods → List Text → Written → Absent → Value → ℕ → Result Chosen (Fault Raise) → Type 0

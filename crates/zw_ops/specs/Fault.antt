@@ -15,7 +15,8 @@ use Rattle.zw_heap.specs.Telling.{Telling}
 use Rattle.zw_show.specs.IsTold.{IsTold}
 
 -- the text that each world tells, or none where that is longer than a text may be
-pub record KnowsText (h : Held) (names : List Text) (text_of : Telling → World → Option Text) (answer : Option (String Global)) : Type 0 where
+pub record KnowsText (h : Held) (names : List Text) (text_of : Telling → World → Option Text)
+    (answer : Option (String Global)) : Type 0 where
   pub text : Text
   pub told : IsTold h names text_of text
   pub known : IsPath text answer

@@ -37,14 +37,18 @@ makes (k.Class superclass) I = makes_opened true (Some (above_or_object (told_su
 -- a class would stand below `Class`
 abbrev pub is_below_class : ModuleKind → Telling → Bool
 is_below_class k.Module I = false
-is_below_class (k.Class superclass) I = id_eq (above_or_object (told_superclass I (k.Class superclass))) class_of_classes
+is_below_class (k.Class superclass) I =
+    id_eq (above_or_object (told_superclass I (k.Class superclass))) class_of_classes
 
 -- ---- what is answered
 
 -- the statement goes on in that module, or raises that exception
-abbrev pub Reopens : Held → List Text → (Telling → (Id → Act) → Option Id → Act) → (Telling → Option Id) → Result ModuleId (Fault Raise) → Type 0
-Reopens h names act found (Ok m) = (go_on : Id → Act) → AreSame h names (λ I. act I go_on (found I)) (λ I. go_on (I.module_id m.0))
-Reopens h names act found (Err (Refused raise)) = (go_on : Id → Act) → AreSame h names (λ I. act I go_on (found I)) (λ I. fault_seen raise)
+abbrev pub Reopens : Held → List Text → (Telling → (Id → Act) → Option Id → Act) → (Telling → Option Id)
+    → Result ModuleId (Fault Raise) → Type 0
+Reopens h names act found (Ok m) = (go_on : Id → Act)
+    → AreSame h names (λ I. act I go_on (found I)) (λ I. go_on (I.module_id m.0))
+Reopens h names act found (Err (Refused raise)) = (go_on : Id → Act)
+    → AreSame h names (λ I. act I go_on (found I)) (λ I. fault_seen raise)
 Reopens h names act found (Err Memory) = Unit {0}
 
 abbrev pub open_seen : ModuleKind → Telling → Id → Text → (Id → Act) → OpenAct → Act
@@ -54,7 +58,8 @@ open_seen kind I i n go_on o.Make = makes kind I i n go_on
 -- the statement opens that module, makes one, or raises that exception
 abbrev pub Opens : Held → List Text → ModuleKind → ℕ → Option Value → Result OpenAct (Fault Raise) → Type 0
 Opens h names kind x found (Ok act) = (i : Id) (go_on : Id → Act)
-    → AreSame h names (λ I. opens kind I i (I.name x) go_on (option_map (tell I) found)) (λ I. open_seen kind I i (I.name x) go_on act)
+    → AreSame h names (λ I. opens kind I i (I.name x) go_on (option_map (tell I) found))
+    (λ I. open_seen kind I i (I.name x) go_on act)
 Opens h names kind x found (Err (Refused raise)) = (i : Id) (go_on : Id → Act)
     → AreSame h names (λ I. opens kind I i (I.name x) go_on (option_map (tell I) found)) (λ I. fault_seen raise)
 Opens h names kind x found (Err Memory) = Unit {0}

@@ -70,7 +70,8 @@ fn fault_for(
     requires held { IsIn (sizes_of heap.now) value }
     requires named { heap.now.names ≤ length names.now }
     ensures { IfOk result (λ raise. AreSame heap.now names.now
-        (λ I. tells_receiver (error_kind_seen kind) start.now name.now end.now (tell I value)) (λ I. fault_seen raise)) }
+        (λ I. tells_receiver (error_kind_seen kind) start.now name.now end.now (tell I value))
+        (λ I. fault_seen raise)) }
 {
     let Some(told) = receiver_told(alloc, value, heap, names)? else {
         return too_long(alloc);

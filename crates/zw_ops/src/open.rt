@@ -61,8 +61,8 @@ fn mismatch(alloc: Global, name: &str) -> Result<Raise, AllocError>
 
 /// Whether a superclass that may be given is the one that a class has.
 fn is_superclass(given: Option<ModuleId>, above: Option<ModuleId>) -> bool
-    ensures { (I : Telling) → is_superclass (option_map (λ m. I.module_id m.0) given) (option_map (λ m. I.module_id m.0) above)
-        ≡ result }
+    ensures { (I : Telling) → is_superclass (option_map (λ m. I.module_id m.0) given)
+        (option_map (λ m. I.module_id m.0) above) ≡ result }
 {
     let Some(given) = given else {
         return true;
@@ -83,7 +83,8 @@ fn reopen_class(
 ) -> Result<ModuleId, OpFault>
     requires { IsIn (sizes_of heap.now) found }
     ensures { (names : List Text) → Reopens heap.now names
-        (λ I. reopens_class_value (told_superclass I (Class superclass)) name.now) (λ I. as_module (tell I found)) result }
+        (λ I. reopens_class_value (told_superclass I (Class superclass)) name.now)
+        (λ I. as_module (tell I found)) result }
 {
     let Value::Module(module) = found else {
         return Err(OpFault::Refused(not_a_class(alloc, name)?));
@@ -121,7 +122,8 @@ fn reopen(
     name: &str,
 ) -> Result<ModuleId, OpFault>
     requires { IsIn (sizes_of heap.now) found }
-    ensures { (names : List Text) → Reopens heap.now names (λ I. reopens kind I name.now) (λ I. as_module (tell I found)) result }
+    ensures { (names : List Text)
+        → Reopens heap.now names (λ I. reopens kind I name.now) (λ I. as_module (tell I found)) result }
 {
     match kind {
         ModuleKind::Module => reopen_module(alloc, heap, found, name),
