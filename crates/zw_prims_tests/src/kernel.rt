@@ -314,47 +314,69 @@ fn comparisons_and_texts_cost_steps(rt: HostRuntime) -> Result<(), Fail> {
     Ok(())
 }
 
-#[test]
-fn an_object_is_the_same_as_itself_alone(rt: HostRuntime) -> Result<(), Fail> {
-    let alloc = rt.alloc();
+/// What `equal?` answers of an object and itself, or another one.
+fn told_of_objects(rt: &impl Abort, alloc: Global, is_other: bool) -> Result<String, Fail> {
     let mut names = Names::new(alloc)?;
     let mut heap = Heap::new(alloc, &mut names)?;
     let object = Value::Object(heap.make_object(heap.core(CoreClass::Object))?);
     let other = Value::Object(heap.make_object(heap.core(CoreClass::Object))?);
-    let same = PrimId::Kernel(row(&rt, "equal?"));
-    let (made, _) = answered(alloc, same, object, &[object], 9, &mut heap, &mut names)?;
+    let argument = if is_other { other } else { object };
+    let same = PrimId::Kernel(row(rt, "equal?"));
+    let (made, _) = answered(alloc, same, object, &[argument], 9, &mut heap, &mut names)?;
+    Ok(made)
+}
+
+#[test]
+fn an_object_is_the_same_as_itself_alone(rt: HostRuntime) -> Result<(), Fail> {
+    let made = told_of_objects(&rt, rt.alloc(), false)?;
     assert!(rt; made.as_str() == "true", "an object is not itself");
-    let (made, _) = answered(alloc, same, object, &[other], 9, &mut heap, &mut names)?;
+    let made = told_of_objects(&rt, rt.alloc(), true)?;
     assert!(rt; made.as_str() == "false", "two objects are the same");
-    let (made, _) = answered(
-        alloc,
-        PrimId::Kernel(KernelRow::ToS),
-        other,
-        &[],
-        9,
-        &mut heap,
-        &mut names,
-    )?;
-    assert!(rt; made.as_str() == "\"#<Object>\"", "an object: {made}");
     Ok(())
 }
 
 #[test]
-fn what_was_frozen_is_frozen(rt: HostRuntime) -> Result<(), Fail> {
+fn an_object_is_told_by_its_class(rt: HostRuntime) -> Result<(), Fail> {
     let alloc = rt.alloc();
     let mut names = Names::new(alloc)?;
     let mut heap = Heap::new(alloc, &mut names)?;
-    let frozen = PrimId::Kernel(row(&rt, "frozen?"));
-    let main = Value::Object(heap.main());
-    let module = Value::Module(heap.core(CoreClass::Kernel));
-    heap.freeze(main);
-    let (made, _) = answered(alloc, frozen, main, &[], 9, &mut heap, &mut names)?;
-    assert!(rt; made.as_str() == "true", "main: {made}");
-    let (made, _) = answered(alloc, frozen, module, &[], 9, &mut heap, &mut names)?;
-    assert!(rt; made.as_str() == "false", "a module: {made}");
-    heap.freeze(module);
-    let (made, _) = answered(alloc, frozen, module, &[], 9, &mut heap, &mut names)?;
-    assert!(rt; made.as_str() == "true", "a frozen module: {made}");
+    let object = Value::Object(heap.make_object(heap.core(CoreClass::Object))?);
+    let text = PrimId::Kernel(KernelRow::ToS);
+    let (made, _) = answered(alloc, text, object, &[], 9, &mut heap, &mut names)?;
+    assert!(rt; made.as_str() == "\"#<Object>\"", "an object: {made}");
+    Ok(())
+}
+
+/// What `frozen?` answers of `main`, or of a module, which may be frozen first.
+fn told_of_frozen(
+    rt: &impl Abort,
+    alloc: Global,
+    is_module: bool,
+    freezes: bool,
+) -> Result<String, Fail> {
+    let mut names = Names::new(alloc)?;
+    let mut heap = Heap::new(alloc, &mut names)?;
+    let receiver = if is_module {
+        Value::Module(heap.core(CoreClass::Kernel))
+    } else {
+        Value::Object(heap.main())
+    };
+    if freezes {
+        heap.freeze(receiver);
+    }
+    let frozen = PrimId::Kernel(row(rt, "frozen?"));
+    let (made, _) = answered(alloc, frozen, receiver, &[], 9, &mut heap, &mut names)?;
+    Ok(made)
+}
+
+#[test]
+fn what_was_frozen_is_frozen(rt: HostRuntime) -> Result<(), Fail> {
+    for is_module in [false, true] {
+        let made = told_of_frozen(&rt, rt.alloc(), is_module, true)?;
+        assert!(rt; made.as_str() == "true", "frozen: {made}");
+        let made = told_of_frozen(&rt, rt.alloc(), is_module, false)?;
+        assert!(rt; made.as_str() == "false", "not frozen: {made}");
+    }
     Ok(())
 }
 

@@ -5,6 +5,7 @@ ghost use Rattle.zw_heap.specs.Heap.{sizes_of};
 ghost use Rattle.zw_heap.specs.Sound.{IsIn};
 ghost use Rattle.zw_heap.specs.declared.value.Value.TheVariants.{Text as TextValue};
 
+use crate::item::{Item, values};
 use crate::outcome::outcome;
 use crate::string_table::{ALONE, PARTS, SPLIT, WITH_NUMBER, WITH_TEXT};
 use std::alloc::Global;
@@ -55,6 +56,31 @@ fn told(
     Ok((outcome(alloc, &end, heap, names)?, meter.left))
 }
 
+/// What a call with these arguments answers.
+fn told_with(
+    rt: &impl Abort,
+    alloc: Global,
+    name: &str,
+    text: &str,
+    args: &[Item],
+    left: u64,
+) -> Result<(String, u64), Fail> {
+    let mut names = Names::new(alloc)?;
+    let mut heap = Heap::new(alloc, &mut names)?;
+    let receiver = heap.make_text(text)?;
+    let args = values(alloc, args, &mut heap, &mut names)?;
+    told(
+        rt,
+        alloc,
+        name,
+        receiver,
+        args.as_slice(),
+        left,
+        &mut heap,
+        &mut names,
+    )
+}
+
 fn call(
     rt: &impl Abort,
     alloc: Global,
@@ -63,40 +89,21 @@ fn call(
     args: &Arguments,
     left: u64,
 ) -> Result<(String, u64), Fail> {
-    let mut names = Names::new(alloc)?;
-    let mut heap = Heap::new(alloc, &mut names)?;
-    let value = match args {
-        Arguments::None => None,
-        Arguments::Nil => Some(Value::Nil),
-        Arguments::Text(other) => Some(Value::Text(heap.make_text(other)?)),
-        Arguments::Symbol(name) => {
-            let name = names.intern(name)?;
-            heap.tell_names(&names);
-            Some(Value::Sym(name))
-        }
-        Arguments::Integer(number) => Some(Value::Int(*number)),
-        Arguments::Integers(number, _) => Some(Value::Int(*number)),
-    };
-    let receiver = heap.make_text(text)?;
-    let Some(value) = value else {
-        return told(rt, alloc, name, receiver, &[], left, &mut heap, &mut names);
-    };
-    if let Arguments::Integers(_, second) = args {
-        let values = [value, Value::Int(*second)];
-        return told(
-            rt, alloc, name, receiver, &values, left, &mut heap, &mut names,
-        );
+    match args {
+        Arguments::None => told_with(rt, alloc, name, text, &[], left),
+        Arguments::Nil => told_with(rt, alloc, name, text, &[Item::Nil], left),
+        Arguments::Text(other) => told_with(rt, alloc, name, text, &[Item::Text(other)], left),
+        Arguments::Symbol(other) => told_with(rt, alloc, name, text, &[Item::Symbol(other)], left),
+        Arguments::Integer(number) => told_with(rt, alloc, name, text, &[Item::Int(*number)], left),
+        Arguments::Integers(first, second) => told_with(
+            rt,
+            alloc,
+            name,
+            text,
+            &[Item::Int(*first), Item::Int(*second)],
+            left,
+        ),
     }
-    told(
-        rt,
-        alloc,
-        name,
-        receiver,
-        &[value],
-        left,
-        &mut heap,
-        &mut names,
-    )
 }
 
 fn try_call(
