@@ -1,5 +1,5 @@
 //! Methods of Exception.
-ghost use Rattle.std.specs.Prelude.{◌≤◌, length};
+ghost use Rattle.std.specs.Prelude.{◌≤◌, length, ◌≡◌, IfOk};
 ghost use Rattle.std.specs.List.{All};
 ghost use Rattle.zw_heap.specs.Heap.{sizes_of};
 ghost use Rattle.zw_heap.specs.Sound.{IsIn, Stays};
@@ -93,6 +93,21 @@ fn the_errors_of_zeitwerk_have_whole_paths(rt: HostRuntime) -> Result<(), Fail> 
     Ok(())
 }
 
+/// A NameError, which may keep a text and may be frozen.
+fn name_error(kept: Option<&str>, is_frozen: bool, heap: &mut Heap) -> Result<ObjRef, Fail>
+    ensures held { IfOk result (λ object. IsIn (sizes_of heap.new) (ObjectValue object)) }
+    ensures names { heap.new.names ≡ heap.old.names }
+{
+    let object = heap.make_object(heap.core(CoreClass::NameError))?;
+    if let Some(text) = kept {
+        heap.set_message(object, text)?;
+    }
+    if is_frozen {
+        heap.freeze(Value::Object(object));
+    }
+    Ok(object)
+}
+
 /// What an exception answers to `initialize` and then to `inspect`.
 fn initialized(
     rt: &impl Abort,
@@ -103,13 +118,7 @@ fn initialized(
 ) -> Result<(String, String), Fail> {
     let mut names = Names::new(alloc)?;
     let mut heap = Heap::new(alloc, &mut names)?;
-    let object = heap.make_object(heap.core(CoreClass::NameError))?;
-    if let Some(text) = kept {
-        heap.set_message(object, text)?;
-    }
-    if is_frozen {
-        heap.freeze(Value::Object(object));
-    }
+    let object = name_error(kept, is_frozen, &mut heap)?;
     let args = values(alloc, args, &mut heap, &mut names)?;
     let args = args.as_slice();
     let (made, left) = told(
