@@ -263,8 +263,6 @@ fn an_inspect_text_may_be_too_long(rt: HostRuntime) -> Result<(), Fail> {
     let (made, left) = alone(&rt, alloc, "inspect", CoreClass::NameError, kept, 0)?;
     assert!(rt; made.as_str() == "! RangeError: text too long", "{made}");
     assert!(rt; left == 0, "{left} steps left");
-    let (_, left) = alone(&rt, alloc, "message", CoreClass::NameError, kept, 16_384)?;
-    assert!(rt; left == 0, "{left} steps left");
     let (made, _) = initialized(&rt, alloc, kept, true, &[])?;
     assert!(rt; made.as_str() == "! RangeError: text too long", "{made}");
     Ok(())
