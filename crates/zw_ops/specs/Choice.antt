@@ -1,12 +1,15 @@
 -- Which method answers a call, in every world that agrees with the stores.
-use Rattle.std.specs.Prelude.{◌≡◌, ℕ, Bool, false, List, Option, Some, None, Result, Ok, Err, drop, map, take}
+use Rattle.std.specs.Prelude.{◌≡◌, ℕ, ◌&&◌, Bool, true, false, List, Option, Some, None, Result, Ok, Err, codes, drop, map, take}
+use Rattle.std.specs.List.{list_any, slice_get}
 use Rattle.zw_base.specs.declared.fault.Fault.{Fault}
 use Rattle.zw_base.specs.declared.fault.Fault.TheVariants.{Refused, Memory}
 use Rattle.zw_calls.specs.Fault.{fault_seen}
+use Rattle.zw_consts.specs.Ancestor.{ancestors_of, is_among}
 use Rattle.zw_def.specs.Text.{Text}
 use Rattle.zw_def_syntax.specs.Tree.{Tree as Node}
 use Rattle.zw_def_world.specs.Act.{Act, Point}
 use Rattle.zw_def_world.specs.Call.{calls, calls_super, is_bare, next_method, node_site, running_at, runs_body}
+use Rattle.zw_def_world.specs.CoreClass.{classes_without_new}
 use Rattle.zw_def_world.specs.Frame as told_frame
 use Rattle.zw_def_world.specs.MethodLine as told_line
 use Rattle.zw_def_world.specs.Value as told
@@ -14,11 +17,15 @@ use Rattle.zw_def_world.specs.World.{World}
 use Rattle.zw_fault.specs.declared.raise.Raise.{Raise}
 use Rattle.zw_heap.specs.Heap.{Held}
 use Rattle.zw_heap.specs.Telling.{Telling, Fits, Agrees, tell}
+use Rattle.zw_heap.specs.declared.value.ModuleId.{ModuleId}
 use Rattle.zw_heap.specs.declared.value.Value.{Value}
-use Rattle.zw_methods.specs.Line.{place_seen, places_of, told_place}
-use Rattle.zw_methods.specs.Methods.{Methods, tables_in}
+use Rattle.zw_heap.specs.declared.value.Value.TheVariants as v
+use Rattle.zw_methods.specs.Line.{Place, line_in, place_seen, places_of, told_place}
+use Rattle.zw_methods.specs.Methods.{Methods, method_at, tables_in}
 use Rattle.zw_methods.specs.declared.method.ModuleLine.{ModuleLine}
 use Rattle.zw_methods.specs.Telling.{Codes, told_body, told_method, AgreesMethods}
+use Rattle.zw_names.specs.declared.names.Name.{Name}
+use Rattle.zw_ops.specs.Line.{is_of_classes, is_table}
 use Rattle.zw_ops.specs.Written.{written_seen, absent_seen}
 use Rattle.zw_ops.specs.declared.choice.Chosen.{Chosen}
 use Rattle.zw_ops.specs.declared.choice.Running.{Running}
@@ -66,6 +73,38 @@ FindsNext h methods names receiver running chosen =
     → (found : Option told_line.Found)
     × (next_method w (tell I receiver) (told_running I running) ≡ Some found)
     × IsChosen I codes (I.name running.name.0) found chosen
+
+-- ---- where it stands
+
+abbrev pub is_placed : List Place → Place → Bool
+is_placed line p = list_any (is_table p) line
+
+-- the method of a name that was found in a line, where the instances of Class may be passed over
+pub record IsFoundIn (methods : Methods) (line : List Place) (passes : Bool) (x : Name) (c : Chosen) : Type 0 where
+  pub name : c.running.name ≡ x
+  pub there : method_at (tables_in methods) c.running.place c.running.name.0 ≡ Some c.method
+  pub in_line : is_placed line (place_seen c.running.place) ≡ true
+  pub asked : (passes && is_of_classes (place_seen c.running.place)) ≡ false
+
+-- the numbers of the classes without `new`
+abbrev pub without_new : List ℕ
+without_new = map (λ i. i.count) classes_without_new
+
+-- a module that none of them is above
+abbrev pub Makes : Held → Value → Type 0
+Makes h receiver =
+    (m : ModuleId) × (receiver ≡ v.Module m)
+    × (list_any (is_among (ancestors_of h.modules m.0)) without_new ≡ false)
+
+abbrev pub is_new : List Text → ℕ → Type 0
+is_new names x = slice_get names x ≡ Some (codes "new")
+
+-- the method stands in that table of the receiver's line, under that name, and `new` of Class has a receiver that makes
+-- objects
+pub record StandsIn (h : Held) (methods : Methods) (names : List Text) (receiver : Value) (c : Chosen) : Type 0 where
+  pub there : method_at (tables_in methods) c.running.place c.running.name.0 ≡ Some c.method
+  pub in_line : is_placed (line_in h receiver) (place_seen c.running.place) ≡ true
+  pub makes : is_of_classes (place_seen c.running.place) ≡ true → is_new names c.running.name.0 → Makes h receiver
 
 -- ---- what is done
 

@@ -1,5 +1,5 @@
 //! Which method answers a call (ISO/IEC 30170, 13.3.4 and 11.3.3).
-ghost use Rattle.std.specs.Prelude.{◌≡◌, ◌<◌, ◌≤◌, ◌&&◌, not, List, Some, length, IfOk};
+ghost use Rattle.std.specs.Prelude.{◌≡◌, ◌<◌, ◌≤◌, ◌&&◌, not, false, List, Some, length, IfOk, IfSome};
 ghost use Rattle.std.specs.List.{All, list_any};
 ghost use Rattle.zw_consts.specs.Ancestor.{is_among, numbers_of};
 ghost use Rattle.zw_def.specs.Text.{Text};
@@ -12,7 +12,7 @@ ghost use Rattle.zw_heap.specs.Telling.{Telling, Fits, Agrees, tell};
 ghost use Rattle.zw_calls.specs.Fault.{AreSame, fault_seen};
 ghost use Rattle.zw_methods.specs.Line.{cores, place_seen, places_of};
 ghost use Rattle.zw_methods.specs.Telling.{Codes};
-ghost use Rattle.zw_ops.specs.Choice.{Chooses, ChoosesNext, Finds, FindsFrom, FindsNext, Tells};
+ghost use Rattle.zw_ops.specs.Choice.{Chooses, ChoosesNext, Finds, FindsFrom, FindsNext, IsFoundIn, Makes, StandsIn, Tells, is_new};
 ghost use Rattle.zw_ops.specs.Written.{absent_seen, written_seen};
 
 use crate::fault::{OpFault, no_method, no_super, no_variable, private_method};
@@ -76,8 +76,9 @@ fn passes_new(
 ) -> Result<bool, AllocError>
     requires receiver { IsIn (sizes_of heap.now) receiver }
     requires named { name.0 < length names.now }
-    ensures { IfOk result (λ passes. (I : Telling) (w : World) → Fits I names.now heap.now → Agrees I heap.now w
+    ensures told { IfOk result (λ passes. (I : Telling) (w : World) → Fits I names.now heap.now → Agrees I heap.now w
         → passes_new w (tell I receiver) (I.name name.0) ≡ Some passes) }
+    ensures makes { IfOk result (λ passes. passes ≡ false → is_new names.now name.0 → Makes heap.now receiver) }
 {
     heap.tells_core();
     tells_ancestors(heap);
@@ -101,9 +102,10 @@ fn chosen_from(
     name: Name,
 ) -> Option<Chosen>
     requires { start ≤ length line.now }
-    ensures { (I : Telling) (codes : Codes) (names : List Text) (w : World) → Tells I codes heap.now methods.now names w
-        → All (λ p. (place_seen p).0 < length heap.now.modules) line.now
+    ensures finds { (I : Telling) (codes : Codes) (names : List Text) (w : World)
+        → Tells I codes heap.now methods.now names w → All (λ p. (place_seen p).0 < length heap.now.modules) line.now
         → FindsFrom I codes w passes (I.name name.0) start line.now result }
+    ensures found { IfSome result (IsFoundIn methods.now (places_of line.now) passes name) }
 {
     heap.tells_core();
     let Some(found) = find_asked(heap, methods, line, start, passes, name) else {
@@ -131,7 +133,8 @@ fn find_method(
 ) -> Result<Option<Chosen>, AllocError>
     requires receiver { IsIn (sizes_of heap.now) receiver }
     requires named { name.0 < length names.now }
-    ensures { IfOk result (Finds heap.now methods.now names.now receiver name.0) }
+    ensures finds { IfOk result (Finds heap.now methods.now names.now receiver name.0) }
+    ensures stands { IfOk result (λ chosen. IfSome chosen (StandsIn heap.now methods.now names.now receiver)) }
 {
     tells_line(heap);
     let passes = passes_new(alloc, heap, names, receiver, name)?;
@@ -180,7 +183,8 @@ pub fn choose_call(
     requires receiver { IsIn (sizes_of heap.now) receiver }
     requires name { name.0 < length names.now }
     requires named { heap.now.names ≤ length names.now }
-    ensures { Chooses heap.now methods.now names.now written absent receiver name.0 result }
+    ensures chooses { Chooses heap.now methods.now names.now written absent receiver name.0 result }
+    ensures stands { IfOk result (StandsIn heap.now methods.now names.now receiver) }
 {
     let text = names.text(name);
     let Some(chosen) = find_method(alloc, heap, methods, names, receiver, name)? else {
@@ -205,7 +209,8 @@ fn find_next(
 ) -> Result<Option<Chosen>, AllocError>
     requires receiver { IsIn (sizes_of heap.now) receiver }
     requires named { running.name.0 < length names.now }
-    ensures { IfOk result (FindsNext heap.now methods.now names.now receiver running) }
+    ensures finds { IfOk result (FindsNext heap.now methods.now names.now receiver running) }
+    ensures stands { IfOk result (λ chosen. IfSome chosen (StandsIn heap.now methods.now names.now receiver)) }
 {
     tells_line(heap);
     let passes = passes_new(alloc, heap, names, receiver, running.name)?;
@@ -226,7 +231,8 @@ pub fn choose_super(
     requires receiver { IsIn (sizes_of heap.now) receiver }
     requires name { running.name.0 < length names.now }
     requires named { heap.now.names ≤ length names.now }
-    ensures { ChoosesNext heap.now methods.now names.now receiver running result }
+    ensures chooses { ChoosesNext heap.now methods.now names.now receiver running result }
+    ensures stands { IfOk result (StandsIn heap.now methods.now names.now receiver) }
 {
     let Some(chosen) = find_next(alloc, heap, methods, names, receiver, running)? else {
         let fault = no_super(alloc, receiver, names.text(running.name), heap, names)?;

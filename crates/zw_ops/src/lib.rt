@@ -2,7 +2,8 @@
 //! a class or module statement makes or reopens, where a class variable stands, and how many optional parameters are
 //! given. It stands on the stores `zw_heap` and `zw_methods`, on `zw_consts` for ancestors and on `zw_calls` for faults. It
 //! promises that in every world that agrees with the stores each answer is what the definition goes on with, and each
-//! fault the exception that the definition raises there.
+//! fault the exception that the definition raises there; and that a method that is chosen stands under its name in a table
+//! of the receiver's line, `new` of Class with a receiver that makes objects.
 #![tactic(auto)]
 
 mod arguments;

@@ -1,8 +1,8 @@
 //! Places in the line of a receiver.
-ghost use Rattle.std.specs.Prelude.{◌≡◌, ◌<◌, ◌≤◌, drop, filter, length, IfSome};
+ghost use Rattle.std.specs.Prelude.{◌≡◌, ◌<◌, ◌≤◌, ◌&&◌, false, Some, drop, filter, length, slice_get, IfSome};
 ghost use Rattle.std.specs.Option.{option_map};
 ghost use Rattle.zw_methods.specs.Line.{place_seen};
-ghost use Rattle.zw_methods.specs.Methods.{found_seen, tables_in};
+ghost use Rattle.zw_methods.specs.Methods.{found_seen, method_at, tables_in};
 ghost use Rattle.zw_ops.specs.Line.{first_asked, is_of_classes, is_table, line_behind};
 
 use zw_heap::{CoreClass, Heap};
@@ -66,6 +66,11 @@ pub(crate) fn find_asked(
     ensures first { option_map found_seen result
         ≡ first_asked (tables_in methods.now) passes name.0 start (drop start line.now) }
     ensures within { IfSome result (λ found. found.at < length line.now) }
+    ensures there { IfSome result (λ found.
+        option_map (λ p. method_at (tables_in methods.now) p name.0) (slice_get line.now found.at)
+        ≡ Some (Some found.method)) }
+    ensures asked { IfSome result (λ found.
+        option_map (λ p. passes && is_of_classes (place_seen p)) (slice_get line.now found.at) ≡ Some false) }
 {
     for at in start..line.len() {
         let place = line[at];

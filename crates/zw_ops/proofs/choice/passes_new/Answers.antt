@@ -7,11 +7,12 @@ use Rattle.zw_def_world.specs.Value as told_value
 use Rattle.zw_heap.specs.Heap.{sizes_of}
 use Rattle.zw_heap.specs.Sound.{IsIn}
 use Rattle.zw_heap.specs.Telling.{tell}
-use Rattle.zw_ops.proofs.ChoiceLemmas.{without_new, without_new-told, passes-told}
+use Rattle.zw_ops.specs.Choice.{without_new}
+use Rattle.zw_ops.proofs.ChoiceLemmas.{without_new-told, passes-told}
 use Rattle.zw_ops.proofs.choice.passes_new.Goals as goal
 
-pub returns : goal.returns
-returns c = λ I w fit agrees.
+pub returns-clause-told : goal.returns-clause-told
+returns-clause-told c = λ I w fit agrees.
     let n = c.in-Module.of.0 in
     let within = subst (IsIn (sizes_of c.args.heap.now)) c.in-Module.is c.requires.receiver in
     let new : bytes_eq c.text.result.now (codes "new") ≡ true = search rules in
