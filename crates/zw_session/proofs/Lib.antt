@@ -1,0 +1,14 @@
+pub mod ListLemmas
+pub mod WorldLemmas
+pub mod SoundLemmas
+pub mod MadeLemmas
+pub mod ActLemmas
+pub mod ConstantLemmas
+pub mod FaultLemmas
+pub mod MethodLemmas
+pub mod ModuleLemmas
+pub mod LeadLemmas
+pub mod DispatchLemmas
+pub mod VariableLemmas
+pub mod NamingLemmas
+pub mod RegularLemmas
